@@ -8,6 +8,10 @@ use Rattle.faults.specs.declared.Layer.the-variants.{Function}
 use Rattle.faults.specs.declared.Refusal.the-variants.{Size}
 use Rattle.faults.specs.Faults.{fault, refuse}
 
--- the value of a size up to the capacity c, else refusal 4 with the size
+-- refusal 4 with the size where it is above the capacity c
+abbrev pub size-check : {X : Type 0} → ℕ → ℕ → Result X Fault → Result X Fault
+size-check c s later = refuse (ltb c s) (fault Size Function s) later
+
+-- the value of a size, once it is checked
 abbrev pub valued : ℕ → (ℕ → ℕ) → ℕ → Result ℕ Fault
-valued c v s = refuse (ltb c s) (fault Size Function s) (Ok (v s))
+valued c v s = size-check c s (Ok (v s))

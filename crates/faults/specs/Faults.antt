@@ -1,6 +1,7 @@
 -- Faults: the number of each refusal, and checks in their order.
-use mathlib.Core.Bool.{Bool, cond}
+use mathlib.Core.Bool.{Bool, cond, _||_}
 use Prim.Native.Nat.{ℕ}
+use lib.Dec.{ltb}
 use Rattle.std.specs.declared.result.Result.{Result}
 use Rattle.std.specs.declared.result.Result.the-variants.{Ok, Err}
 use Rattle.faults.specs.declared.Fault.{Fault}
@@ -29,3 +30,12 @@ fault r l n = record { refusal = r; layer = l; figure = n }
 -- one check: the fault where the test holds, else what comes later
 abbrev pub refuse : {X : Type 0} → Bool → Fault → Result X Fault → Result X Fault
 refuse test f later = cond test (Err f) later
+
+-- the number lies outside low to high
+abbrev pub outside : ℕ → ℕ → ℕ → Bool
+outside low high n = ltb n low || ltb high n
+
+-- what a call made, by the parts that a rule names, or its fault
+abbrev pub outcome : {X Y : Type 0} → (X → Y) → Result X Fault → Result Y Fault
+outcome parts (Ok x) = Ok (parts x)
+outcome parts (Err f) = Err f
