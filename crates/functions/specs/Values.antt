@@ -1,4 +1,4 @@
--- The values of the five functions: c is the capacity, s a size from 0 to c.
+-- The values of the five functions at a size s from 0 to the capacity c, and their image capacities.
 use mathlib.Core.Bool.{cond}
 use Prim.Native.Nat.{ℕ, _+_, _-_, _*_, _/_, _%_}
 use lib.Dec.{eqb, ltb, leb}
@@ -22,3 +22,13 @@ division k s = s / k
 -- it; else one if s is at least e
 abbrev pub counting : ℕ → ℕ → ℕ → ℕ
 counting c e s = cond (ltb c (2 * s)) (c / e - (c - s) / e) (cond (leb e s) 1 0)
+
+-- The image capacity of identity and threshold is c.
+abbrev pub rounding-image : ℕ → ℕ → ℕ
+rounding-image c k = c * k
+
+abbrev pub division-image : ℕ → ℕ → ℕ
+division-image c k = c / k
+
+abbrev pub counting-image : ℕ → ℕ → ℕ
+counting-image c e = c / e

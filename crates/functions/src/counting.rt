@@ -1,10 +1,10 @@
 // Counting e: how many pieces of size e a size takes the place of. It is lawful and not superadditive.
 ghost use mathlib.Core.Path.{_≡_};
-ghost use Prim.Native.Nat.{_*_, _/_, _≤_};
+ghost use Prim.Native.Nat.{_*_, _≤_};
 ghost use Rattle.dual_feasible.specs.Laws.{InRange};
 ghost use Rattle.faults.specs.Faults.{outcome};
 ghost use Rattle.functions.specs.Made.{counting-made};
-ghost use Rattle.functions.specs.Values.{counting};
+ghost use Rattle.functions.specs.Values.{counting, counting-image};
 use crate::checks::check_capacity;
 use crate::checks::declined;
 use dual_feasible::DualFeasible;
@@ -36,7 +36,7 @@ impl Counting {
 pub impl DualFeasible for Counting as CountingDualFeasible {
     ghost capacity = { λ f. f .capacity };
 
-    ghost image = { λ f. f .capacity / f .parameter };
+    ghost image = { λ f. counting-image (f .capacity) (f .parameter) };
 
     ghost map = { λ f. counting (f .capacity) (f .parameter) };
 

@@ -1,10 +1,10 @@
 // Division k: how many pieces of size k go into a size.
 ghost use mathlib.Core.Path.{_≡_};
-ghost use Prim.Native.Nat.{_/_, _≤_};
+ghost use Prim.Native.Nat.{_≤_};
 ghost use Rattle.dual_feasible.specs.Laws.{InRange};
 ghost use Rattle.faults.specs.Faults.{outcome};
 ghost use Rattle.functions.specs.Made.{division-made};
-ghost use Rattle.functions.specs.Values.{division};
+ghost use Rattle.functions.specs.Values.{division, division-image};
 use crate::checks::check_capacity;
 use crate::checks::declined;
 use dual_feasible::DualFeasible;
@@ -37,7 +37,7 @@ impl Division {
 pub impl DualFeasible for Division as DivisionDualFeasible {
     ghost capacity = { λ f. f .capacity };
 
-    ghost image = { λ f. f .capacity / f .parameter };
+    ghost image = { λ f. division-image (f .capacity) (f .parameter) };
 
     ghost map = { λ f. division (f .parameter) };
 

@@ -4,7 +4,7 @@ ghost use Prim.Native.Nat.{_*_, _≤_};
 ghost use Rattle.dual_feasible.specs.Laws.{InRange};
 ghost use Rattle.faults.specs.Faults.{outcome};
 ghost use Rattle.functions.specs.Made.{rounding-made};
-ghost use Rattle.functions.specs.Values.{rounding};
+ghost use Rattle.functions.specs.Values.{rounding, rounding-image};
 use crate::checks::GREATEST;
 use crate::checks::check_capacity;
 use crate::checks::declined;
@@ -43,7 +43,7 @@ impl Rounding {
 pub impl DualFeasible for Rounding as RoundingDualFeasible {
     ghost capacity = { λ f. f .capacity };
 
-    ghost image = { λ f. f .capacity * f .parameter };
+    ghost image = { λ f. rounding-image (f .capacity) (f .parameter) };
 
     ghost map = { λ f. rounding (f .capacity) (f .parameter) };
 

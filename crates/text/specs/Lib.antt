@@ -1,0 +1,4 @@
+pub mod Rows
+pub mod Lower
+pub mod Listings
+pub mod Room

@@ -1,0 +1,2 @@
+// A cutting list as text: what is read of it, and what is printed.
+mod listing;
