@@ -1,2 +1,3 @@
 // A cutting list as text: what is read of it, and what is printed.
 mod listing;
+mod reading;

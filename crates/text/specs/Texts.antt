@@ -1,0 +1,57 @@
+-- What a whole text says.
+use mathlib.Core.Bool.{cond}
+use mathlib.Core.List.{List, [], _∷_, _++_}
+use Prim.Native.Nat.{ℕ, _+_}
+use lib.Dec.{eqb, ltb}
+use lib.ListN.{length}
+use Rattle.std.specs.declared.option.Option.{Option}
+use Rattle.std.specs.declared.option.Option.the-variants.{Some, None}
+use Rattle.std.specs.declared.result.Result.{Result}
+use Rattle.std.specs.declared.result.Result.the-variants.{Ok, Err}
+use Rattle.faults.specs.declared.Refusal.{Refusal}
+use Rattle.faults.specs.declared.Refusal.the-variants.{Malformed}
+use Rattle.text.specs.declared.listing.Row.{Row}
+use Rattle.text.specs.declared.reading.Stop.{Stop}
+use Rattle.text.specs.Listings.{Said, nothing, line-heard}
+
+-- a text is refused at a line
+abbrev pub stop : Refusal → ℕ → Stop
+stop r l = record { refusal = r; line = l }
+
+-- what is said after line l, unless that line is refused
+abbrev pub go-on : Result Said Refusal → ℕ → (Said → Result Said Stop) → Result Said Stop
+go-on (Ok s) l next = next s
+go-on (Err r) l next = Err (stop r l)
+
+-- what the bytes to come say, where the lines before said s, and line l has begun with the bytes `line`; a line ends with
+-- byte 10, and so does the text
+abbrev pub scanned : ℕ → Said → List ℕ → List ℕ → Result Said Stop
+scanned l s line [] = cond (eqb (length line) 0) (Ok s) (Err (stop Malformed l))
+scanned l s line (b ∷ bytes) =
+    cond (eqb b 10)
+    (go-on (line-heard line s) l (λ t. scanned (l + 1) t [] bytes))
+    (scanned l s (line ++ b ∷ []) bytes)
+
+-- the capacity of the bars, the sizes to cut and the rows to bound with
+pub record CuttingList : Type 0 where
+  pub capacity : ℕ
+  pub cuts : List ℕ
+  pub rows : List Row
+
+-- a text with no `bar` line is refused at line 1
+abbrev pub with-bar : Option ℕ → Said → Result CuttingList Stop
+with-bar None s = Err (stop Malformed 1)
+with-bar (Some c) s = Ok (record { capacity = c; cuts = s .cuts; rows = s .rows })
+
+abbrev pub whole : Result Said Stop → Result CuttingList Stop
+whole (Ok s) = with-bar (s .bar) s
+whole (Err e) = Err e
+
+-- the cutting list of a text, or the first refusal in the order of its lines; more than 65,536 bytes are refused at line 0
+abbrev pub list-of : List ℕ → Result CuttingList Stop
+list-of text = cond (ltb 65536 (length text)) (Err (stop Malformed 0)) (whole (scanned 1 nothing [] text))
+
+-- what a call that reads a text leaves behind, where it answers the capacity
+abbrev pub listed : Result ℕ Stop → Said → Result CuttingList Stop
+listed (Ok c) s = Ok (record { capacity = c; cuts = s .cuts; rows = s .rows })
+listed (Err e) s = Err e

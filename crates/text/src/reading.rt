@@ -1,0 +1,58 @@
+// A whole text, line by line.
+ghost use mathlib.Core.List.{[]};
+ghost use mathlib.Core.Path.{_≡_};
+ghost use Rattle.text.specs.Listings.{said, nothing, left};
+ghost use Rattle.text.specs.Room.{Roomy};
+ghost use Rattle.text.specs.Texts.{scanned, listed, list-of};
+use crate::listing::Listing;
+use faults::Refusal;
+
+// Why a text is refused, and at which line, counted from 1.
+#[derive(Clone, Copy)]
+pub struct Stop {
+    pub refusal: Refusal,
+    pub line: u64,
+}
+
+const MOST_BYTES: usize = 65_536;
+
+impl Listing {
+    // Every line of the text, up to the first that is refused.
+    fn scan(&mut self, text: &[u8]) -> Result<(), Stop>
+        requires { ⌜ Roomy (now self) ⌝ }
+        ensures room { λ _. ⌜ Roomy (now (self .exit)) ⌝ }
+        ensures said { λ r. ⌜ left r (said (now (self .exit))) ≡ scanned 1 (said (now (self .entry))) [] (now (text .entry)) ⌝ }
+    {
+        let mut start = 0;
+        let mut line = 1;
+        for (i, b) in text.iter().enumerate() {
+            if *b == b'\n' {
+                if let Err(refusal) = self.take_line(&text[start..i]) {
+                    return Err(Stop { refusal, line });
+                }
+                start = i + 1;
+                line += 1;
+            }
+        }
+        if start < text.len() {
+            return Err(Stop { refusal: Refusal::Malformed, line });
+        }
+        Ok(())
+    }
+
+    // The whole text: the bar's capacity, with the cuts and the rows left in the listing, or the first refusal.
+    pub fn read(&mut self, text: &[u8]) -> Result<u64, Stop>
+        requires room { ⌜ Roomy (now self) ⌝ }
+        requires fresh { ⌜ said (now self) ≡ nothing ⌝ }
+        ensures { λ r. ⌜ listed r (said (now (self .exit))) ≡ list-of (now (text .entry)) ⌝ }
+    {
+        if text.len() > MOST_BYTES {
+            return Err(Stop { refusal: Refusal::Malformed, line: 0 });
+        }
+        self.scan(text)?;
+        let Some(capacity) = self.bar else {
+            return Err(Stop { refusal: Refusal::Malformed, line: 1 });
+        };
+        Ok(capacity)
+    }
+}
