@@ -1,2 +1,5 @@
 pub mod Checked
 pub mod Scanning
+pub mod LowerFigure
+pub mod Keeping
+pub mod Guarantee

@@ -27,7 +27,11 @@ row-value Rounding c p = rounding c p
 row-value Division c p = division p
 row-value Counting c p = counting c p
 
--- the same, without the parts of what was made
-abbrev pub checked : Result (ℕ × ℕ) Fault → Result Unit Fault
-checked (Ok p) = Ok tt
-checked (Err f) = Err f
+-- what is asked of a function, once it is made
+abbrev pub when-made : {X Y : Type 0} → Result X Fault → Result Y Fault → Result Y Fault
+when-made (Ok x) later = later
+when-made (Err f) later = Err f
+
+-- whether it can be made
+abbrev pub checked : {X : Type 0} → Result X Fault → Result Unit Fault
+checked m = when-made m (Ok tt)
