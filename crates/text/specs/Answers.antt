@@ -16,10 +16,18 @@ use Rattle.text.specs.declared.reading.Stop.{Stop}
 abbrev pub lower : CuttingList → ℕ
 lower l = lower-of (l .capacity) (l .cuts) (l .rows)
 
--- one line, ended by byte 10: `lower N`, or `refused NUMBER line LINE`
+-- `lower N`; every line ends with byte 10
+abbrev pub lower-line : ℕ → List ℕ
+lower-line n = codes "lower " ++ (decimal n ++ (10 ∷ []))
+
+-- `refused NUMBER line LINE`
+abbrev pub refused-line : ℕ → ℕ → List ℕ
+refused-line number line = codes "refused " ++ (decimal number ++ (codes " line " ++ (decimal line ++ (10 ∷ []))))
+
+-- the one line of a text
 abbrev pub printed : Result CuttingList Stop → List ℕ
-printed (Ok l) = codes "lower " ++ (decimal (lower l) ++ (10 ∷ []))
-printed (Err e) = codes "refused " ++ (decimal (number-of (e .refusal)) ++ (codes " line " ++ (decimal (e .line) ++ (10 ∷ []))))
+printed (Ok l) = lower-line (lower l)
+printed (Err e) = refused-line (number-of (e .refusal)) (e .line)
 
 -- every plan of the list has at least as many bars as its lower figure says
 abbrev pub NoFewerBars : Result CuttingList Stop → Type 0

@@ -1,0 +1,31 @@
+use borrow.Author.Needs.{needs}
+use mathlib.Core.Path.{_≡_, sym, ap, _∙_}
+use Rattle.std.specs.Of.Vec.{vec-items}
+use Rattle.std.specs.Results.{isErr}
+use Rattle.text.specs.Answers.{printed, lower-line}
+use Rattle.text.specs.Lower.{lower-of}
+use Rattle.text.specs.Texts.{CuttingList}
+use Rattle.text.proofs.Guarantee.{no-fewer-bars}
+use Rattle.text.proofs.Keeping.{list-kept}
+use Rattle.text.proofs.answer.Needs as need
+
+pub returns-in-Break-listing : need.returns-in-Break-listing
+returns-in-Break-listing c = record { text = search needs; refused = search needs; least = no-fewer-bars (c .args .input .now) }
+
+pub lower-figure-lower-requires : need.lower-figure-lower-requires
+lower-figure-lower-requires c κs =
+    let list : CuttingList = record { capacity = c .in-Ok .capacity; cuts = vec-items (c .read .last .self .cuts); rows = vec-items (c .read .last .self .rows) } in
+    rw (c .as-slice .ensures .value, c .as-slice-in-Ok .ensures .value) (list-kept (c .args .input .now) list (sym (c .in-Ok .ensures tt)))
+
+pub returns-in-Break-lower-line : need.returns-in-Break-lower-line
+returns-in-Break-lower-line c = record { text = search needs; refused = search needs; least = no-fewer-bars (c .args .input .now) }
+
+pub returns-in-Ok : need.returns-in-Ok
+returns-in-Ok c =
+    let size = c .in-Ok .capacity in
+    let told : c .lower-figure-lower .result ≡ lower-of size (vec-items (c .read .last .self .cuts)) (vec-items (c .read .last .self .rows)) = c .lower-figure-lower .ensures ∙ ap (λ cuts. lower-of size cuts (c .as-slice-in-Ok .result .now)) (c .as-slice .ensures .value) ∙ ap (lower-of size (vec-items (c .read .last .self .cuts))) (c .as-slice-in-Ok .ensures .value) in
+    record {
+      text = c .in-Continue-lower-line .ensures tt ∙ ap lower-line told ∙ ap printed (c .in-Ok .ensures tt);
+      refused = ap isErr (c .in-Ok .ensures tt);
+      least = no-fewer-bars (c .args .input .now)
+    }
