@@ -1,7 +1,6 @@
 pub mod Rows
 pub mod Lower
 pub mod Listings
-pub mod Room
 pub mod Kept
 pub mod Texts
 pub mod Answers

@@ -47,9 +47,13 @@ abbrev pub whole : Result Said Stop → Result CuttingList Stop
 whole (Ok s) = with-bar (s .bar) s
 whole (Err e) = Err e
 
--- the cutting list of a text, or the first refusal in the order of its lines; more than 65,536 bytes are refused at line 0
+-- the cutting list of a text, where s was said before it, or the first refusal in the order of its lines; more than 65,536
+-- bytes are refused at line 0
+abbrev pub list-from : Said → List ℕ → Result CuttingList Stop
+list-from s text = cond (ltb 65536 (length text)) (Err (stop Malformed 0)) (whole (scanned 1 s [] text))
+
 abbrev pub list-of : List ℕ → Result CuttingList Stop
-list-of text = cond (ltb 65536 (length text)) (Err (stop Malformed 0)) (whole (scanned 1 nothing [] text))
+list-of text = list-from nothing text
 
 -- what a call that reads a text leaves behind, where it answers the capacity
 abbrev pub listed : Result ℕ Stop → Said → Result CuttingList Stop

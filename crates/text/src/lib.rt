@@ -10,6 +10,7 @@ use lower::lower_figure;
 use std::alloc::AllocError;
 use std::alloc::Global;
 
+mod hearing;
 mod listing;
 mod lower;
 mod reading;

@@ -1,9 +1,8 @@
 // A whole text, line by line.
 ghost use mathlib.Core.List.{[]};
 ghost use mathlib.Core.Path.{_≡_};
-ghost use Rattle.text.specs.Listings.{said, nothing, left};
-ghost use Rattle.text.specs.Room.{Roomy};
-ghost use Rattle.text.specs.Texts.{scanned, listed, list-of};
+ghost use Rattle.text.specs.Listings.{said, left};
+ghost use Rattle.text.specs.Texts.{scanned, listed, list-from};
 use crate::listing::Listing;
 use faults::Refusal;
 
@@ -19,9 +18,7 @@ const MOST_BYTES: usize = 65_536;
 impl Listing {
     // Every line of the text, up to the first that is refused.
     fn scan(&mut self, text: &[u8]) -> Result<(), Stop>
-        requires { ⌜ Roomy (now self) ⌝ }
-        ensures room { λ _. ⌜ Roomy (now (self .exit)) ⌝ }
-        ensures said { λ r. ⌜ left r (said (now (self .exit))) ≡ scanned 1 (said (now (self .entry))) [] (now (text .entry)) ⌝ }
+        ensures { λ r. ⌜ left r (said (now (self .exit))) ≡ scanned 1 (said (now (self .entry))) [] (now (text .entry)) ⌝ }
     {
         let mut start = 0;
         let mut line = 1;
@@ -42,9 +39,7 @@ impl Listing {
 
     // The whole text: the bar's capacity, with the cuts and the rows left in the listing, or the first refusal.
     pub fn read(&mut self, text: &[u8]) -> Result<u64, Stop>
-        requires room { ⌜ Roomy (now self) ⌝ }
-        requires fresh { ⌜ said (now self) ≡ nothing ⌝ }
-        ensures { λ r. ⌜ listed r (said (now (self .exit))) ≡ list-of (now (text .entry)) ⌝ }
+        ensures { λ r. ⌜ listed r (said (now (self .exit))) ≡ list-from (said (now (self .entry))) (now (text .entry)) ⌝ }
     {
         if text.len() > MOST_BYTES {
             return Err(Stop { refusal: Refusal::Malformed, line: 0 });

@@ -11,7 +11,4 @@ pub returns-in-Err : need.returns-in-Err
 returns-in-Err c =
     let rows = c .args .self .now .rows in
     let few : length (vec-items rows) < 8 = omega (arith, rows .ok .0) in
-    record {
-      room = c .pre;
-      said = rw (lt-leb 8 (length (vec-items rows)) few) (once-made-refused (row-made (c .args .row .kind) (c .args .capacity) (c .args .row .parameter)) (c .in-Err .fault) _ (c .in-Err .ensures tt))
-    }
+    rw (lt-leb 8 (length (vec-items rows)) few) (once-made-refused (row-made (c .args .row .kind) (c .args .capacity) (c .args .row .parameter)) (c .in-Err .fault) _ (c .in-Err .ensures tt))

@@ -7,11 +7,7 @@ use Rattle.text.proofs.listing.Listing.scan.Needs.{then-b-eq10·in-rest, else-
 
 pub returns-in-Err : need.returns-in-Err
 returns-in-Err c =
-    record {
-      room = c .take-line .ensures .room;
-      said =
-        sym (sym (c .loop-i .inv .3) ∙ scan-refused (c .args .text .now) (c .loop-i .start) (c .loop-i .i) (c .loop-i .line) (said (c .loop-i .self)) (c .in-Err .refusal) (c .loop-i-test .taken) (c .if-b-eq10 .taken) (sym (c .in-Err .ensures tt .said)))
-    }
+    sym (sym (c .loop-i .inv .2) ∙ scan-refused (c .args .text .now) (c .loop-i .start) (c .loop-i .i) (c .loop-i .line) (said (c .loop-i .self)) (c .in-Err .refusal) (c .loop-i-test .taken) (c .if-b-eq10 .taken) (sym (c .in-Err .ensures tt)))
 
 pub loop-i-again : need.loop-i-again
 loop-i-again c =
@@ -23,30 +19,20 @@ loop-i-again c =
       then-b-eq10·in-rest w ↦
         (omega arith,
           omega arith,
-          rw (w .self-is) (w .in-rest .ensures tt .room),
           rw (w .line-is, w .start-is, w .self-is)
-          (sym (scan-line text start i line (said (c .loop-i .self)) (said (w .take-line .last .self)) (c .loop-i-test .taken) (w .if-b-eq10 .taken) (sym (w .in-rest .ensures tt .said)))
-            ∙ c .loop-i .inv .3))
+          (sym (scan-line text start i line (said (c .loop-i .self)) (said (w .take-line .last .self)) (c .loop-i-test .taken) (w .if-b-eq10 .taken) (sym (w .in-rest .ensures tt)))
+            ∙ c .loop-i .inv .2))
     | else-b-eq10 w ↦
         (omega arith,
           omega arith,
-          rw (w .self-is) (c .loop-i .inv .2),
           rw (w .line-is, w .start-is, w .self-is)
-          (sym (scan-byte text start i line (said (c .loop-i .self)) (c .loop-i .inv .0) (c .loop-i-test .taken) (w .if-b-eq10 .left)) ∙ c .loop-i .inv .3))
+          (sym (scan-byte text start i line (said (c .loop-i .self)) (c .loop-i .inv .0) (c .loop-i-test .taken) (w .if-b-eq10 .left)) ∙ c .loop-i .inv .2))
     ]
 
 pub returns-then-start-text : need.returns-then-start-text
 returns-then-start-text c =
-    record {
-      room = c .loop-i .inv .2;
-      said =
-        sym (sym (c .loop-i .inv .3) ∙ scan-breaks (c .args .text .now) (c .loop-i .start) (c .loop-i .i) (c .loop-i .line) (said (c .loop-i .self)) (c .loop-i-test .left) (omega arith) (c .if-start-text .taken))
-    }
+    sym (sym (c .loop-i .inv .2) ∙ scan-breaks (c .args .text .now) (c .loop-i .start) (c .loop-i .i) (c .loop-i .line) (said (c .loop-i .self)) (c .loop-i-test .left) (omega arith) (c .if-start-text .taken))
 
 pub returns : need.returns
 returns c =
-    record {
-      room = c .loop-i .inv .2;
-      said =
-        sym (sym (c .loop-i .inv .3) ∙ scan-ends (c .args .text .now) (c .loop-i .start) (c .loop-i .i) (c .loop-i .line) (said (c .loop-i .self)) (c .loop-i-test .left) (omega arith) (c .if-start-text .left))
-    }
+    sym (sym (c .loop-i .inv .2) ∙ scan-ends (c .args .text .now) (c .loop-i .start) (c .loop-i .i) (c .loop-i .line) (said (c .loop-i .self)) (c .loop-i-test .left) (omega arith) (c .if-start-text .left))
