@@ -18,13 +18,21 @@ pub fn lower_bound<F: DualFeasible>(f: &F, list: &[u64]) -> Result<u64, Fault>
     ensures least { λ _. ⌜ AtLeast (capacity (now (f .entry))) (now (list .entry)) (bound (image (now (f .entry))) (map (now (f .entry))) (now (list .entry))) ⌝ }
 {
     if list.len() > MOST {
-        return Err(Fault { refusal: Refusal::TooMany, layer: Layer::Bound, figure: 64 });
+        return Err(Fault {
+            refusal: Refusal::TooMany,
+            layer: Layer::Bound,
+            figure: 64,
+        });
     }
     let (_, image) = f.capacities();
     let mut total = 0;
     for (i, size) in list.iter().enumerate() {
         let Ok(value) = f.value(*size) else {
-            return Err(Fault { refusal: Refusal::Size, layer: Layer::Bound, figure: i as u64 });
+            return Err(Fault {
+                refusal: Refusal::Size,
+                layer: Layer::Bound,
+                figure: i as u64,
+            });
         };
         total += value;
     }

@@ -2,21 +2,10 @@
 ghost use mathlib.Core.Path.{_≡_};
 ghost use Prim.Native.Nat.{ℕ, _≤_};
 ghost use Rattle.dual_feasible.specs.Laws.{Limits, Lawful, Adds};
-ghost use Rattle.dual_feasible.specs.Answers.{size-check, valued};
-ghost use Rattle.std.specs.declared.result.Result.the-variants.{Ok};
+ghost use Rattle.dual_feasible.specs.Answers.{valued};
 use faults::Fault;
-use faults::Layer;
-use faults::Refusal;
 
-// The check that every question for a value begins with: refusal 4 with the size where it is above the capacity.
-pub fn check_size(capacity: u64, size: u64) -> Result<(), Fault>
-    ensures { λ r. ⌜ r ≡ size-check capacity size (Ok tt) ⌝ }
-{
-    if size > capacity {
-        return Err(Fault { refusal: Refusal::Size, layer: Layer::Function, figure: size });
-    }
-    Ok(())
-}
+pub mod checks;
 
 // A dual feasible function, called lawful where a user reads of it: it weighs sizes from 0 to its capacity so that no
 // list of sizes that fits into the capacity weighs more than the image capacity.

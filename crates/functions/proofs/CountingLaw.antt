@@ -33,16 +33,16 @@ module _ (c e : ℕ) (pos : 0 < e) where
       let rest : ℕ = sum sizes in
       ⊎-elim
       (λ (big : c < 2 * s).
-          let t = small-total sizes (omega arith) in
-          let beside : total (counting c e) sizes + (c - s - rest) / e ≤ (c - s) / e = div-beside (total (counting c e) sizes) rest (c - s) e pos (omega arith) t in
-          let below : (c - s) / e ≤ c / e = div-rises (c - s) c e pos (omega arith) in
-          let same : c - s - rest ≡ c - (s + rest) = omega arith in
-          rw (lt-ltb c (2 * s) big) (omega (arith, ap (λ n. n / e) same)))
+      let t = small-total sizes (omega arith) in
+      let beside : total (counting c e) sizes + (c - s - rest) / e ≤ (c - s) / e = div-beside (total (counting c e) sizes) rest (c - s) e pos (omega arith) t in
+      let below : (c - s) / e ≤ c / e = div-rises (c - s) c e pos (omega arith) in
+      let same : c - s - rest ≡ c - (s + rest) = omega arith in
+      rw (lt-ltb c (2 * s) big) (omega (arith, ap (λ n. n / e) same)))
       (λ (small : 2 * s ≤ c).
-          let beside : counting c e s + (c - rest - s) / e ≤ (c - rest) / e = div-beside (counting c e s) s (c - rest) e pos (omega arith) (small-value s small) in
-          let same : c - rest - s ≡ c - (s + rest) = omega arith in
-          let more : total (counting c e) sizes + (c - rest) / e ≤ c / e = counted sizes (omega arith) in
-          omega (arith, ap (λ n. n / e) same))
+      let beside : counting c e s + (c - rest - s) / e ≤ (c - rest) / e = div-beside (counting c e s) s (c - rest) e pos (omega arith) (small-value s small) in
+      let same : c - rest - s ≡ c - (s + rest) = omega arith in
+      let more : total (counting c e) sizes + (c - rest) / e ≤ c / e = counted sizes (omega arith) in
+      omega (arith, ap (λ n. n / e) same))
       (cases-lt c (2 * s))
 
   pub counting-lawful : Lawful c (c / e) (counting c e)

@@ -48,10 +48,10 @@ module _ (c k : ℕ) (pos : 0 < c) where
         splits = e;
         rest = mod-lt n pos;
         value =
-          ⊎-elim
-          (λ (z : n % c ≡ 0). inl (z, rw (eq-eqb (n % c) 0 z) (omega (arith, add-mul k 1 s, mul-comm s k, one-mul s))))
-          (λ (z : n % c ≡ 0 → ⊥). inr (omega arith, rw (ne-eqb (n % c) 0 z) (mul-comm c (n / c))))
-          (cases-eq (n % c) 0)
+            ⊎-elim
+            (λ (z : n % c ≡ 0). inl (z, rw (eq-eqb (n % c) 0 z) (omega (arith, add-mul k 1 s, mul-comm s k, one-mul s))))
+            (λ (z : n % c ≡ 0 → ⊥). inr (omega arith, rw (ne-eqb (n % c) 0 z) (mul-comm c (n / c))))
+            (cases-eq (n % c) 0);
       }
 
   rounded-adds : (a b u v w : ℕ) → a + b ≤ c → Rounded c k a u → Rounded c k b v → Rounded c k (a + b) w → u + v ≤ w

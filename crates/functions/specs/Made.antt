@@ -6,25 +6,22 @@ use Rattle.std.specs.declared.result.Result.{Result}
 use Rattle.std.specs.declared.result.Result.the-variants.{Ok}
 use Rattle.faults.specs.declared.Fault.{Fault}
 use Rattle.faults.specs.declared.Layer.the-variants.{Function}
-use Rattle.faults.specs.declared.Refusal.the-variants.{Capacity, Parameter, ImageCapacity}
+use Rattle.faults.specs.declared.Refusal.the-variants.{Parameter, ImageCapacity}
 use Rattle.faults.specs.Faults.{fault, refuse, outside}
+use Rattle.dual_feasible.specs.Answers.{capacity-check}
 use Rattle.dual_feasible.specs.Laws.{greatest}
 
--- 1, for every function
-abbrev pub capacity-check : {X : Type 0} → ℕ → Result X Fault → Result X Fault
-capacity-check c later = refuse (outside 1 greatest c) (fault Capacity Function c) later
-
 abbrev pub identity-made : ℕ → Result ℕ Fault
-identity-made c = capacity-check c (Ok c)
+identity-made c = capacity-check Function c (Ok c)
 
 abbrev pub threshold-made : ℕ → ℕ → Result (ℕ × ℕ) Fault
-threshold-made c t = capacity-check c (refuse (ltb c (2 * t)) (fault Parameter Function t) (Ok (c, t)))
+threshold-made c t = capacity-check Function c (refuse (ltb c (2 * t)) (fault Parameter Function t) (Ok (c, t)))
 
 abbrev pub rounding-made : ℕ → ℕ → Result (ℕ × ℕ) Fault
-rounding-made c k = capacity-check c (refuse (outside 1 1000 k) (fault Parameter Function k) (refuse (ltb greatest (c * k)) (fault ImageCapacity Function c) (Ok (c, k))))
+rounding-made c k = capacity-check Function c (refuse (outside 1 1000 k) (fault Parameter Function k) (refuse (ltb greatest (c * k)) (fault ImageCapacity Function c) (Ok (c, k))))
 
 abbrev pub division-made : ℕ → ℕ → Result (ℕ × ℕ) Fault
-division-made c k = capacity-check c (refuse (outside 1 c k) (fault Parameter Function k) (Ok (c, k)))
+division-made c k = capacity-check Function c (refuse (outside 1 c k) (fault Parameter Function k) (Ok (c, k)))
 
 abbrev pub counting-made : ℕ → ℕ → Result (ℕ × ℕ) Fault
-counting-made c e = capacity-check c (refuse (ltb e 1 || ltb c (2 * e)) (fault Parameter Function e) (Ok (c, e)))
+counting-made c e = capacity-check Function c (refuse (ltb e 1 || ltb c (2 * e)) (fault Parameter Function e) (Ok (c, e)))

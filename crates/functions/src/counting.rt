@@ -5,11 +5,12 @@ ghost use Rattle.dual_feasible.specs.Laws.{InRange};
 ghost use Rattle.faults.specs.Faults.{outcome};
 ghost use Rattle.functions.specs.Made.{counting-made};
 ghost use Rattle.functions.specs.Values.{counting, counting-image};
-use crate::checks::check_capacity;
 use crate::checks::declined;
 use dual_feasible::DualFeasible;
-use dual_feasible::check_size;
+use dual_feasible::checks::check_capacity;
+use dual_feasible::checks::check_size;
 use faults::Fault;
+use faults::Layer;
 use faults::Refusal;
 
 #[derive(Drop)]
@@ -25,11 +26,14 @@ impl Counting {
     pub fn new(capacity: u64, e: u64) -> Result<Counting, Fault>
         ensures { λ r. ⌜ outcome (λ f. (f .capacity, f .parameter)) r ≡ counting-made capacity e ⌝ }
     {
-        check_capacity(capacity)?;
+        check_capacity(Layer::Function, capacity)?;
         if e < 1 || e > capacity / 2 {
             return Err(declined(Refusal::Parameter, e));
         }
-        Ok(Counting { capacity, parameter: e })
+        Ok(Counting {
+            capacity,
+            parameter: e,
+        })
     }
 }
 

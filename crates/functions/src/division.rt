@@ -5,12 +5,13 @@ ghost use Rattle.dual_feasible.specs.Laws.{InRange};
 ghost use Rattle.faults.specs.Faults.{outcome};
 ghost use Rattle.functions.specs.Made.{division-made};
 ghost use Rattle.functions.specs.Values.{division, division-image};
-use crate::checks::check_capacity;
 use crate::checks::declined;
 use dual_feasible::DualFeasible;
 use dual_feasible::Superadditive;
-use dual_feasible::check_size;
+use dual_feasible::checks::check_capacity;
+use dual_feasible::checks::check_size;
 use faults::Fault;
+use faults::Layer;
 use faults::Refusal;
 
 #[derive(Drop)]
@@ -26,11 +27,14 @@ impl Division {
     pub fn new(capacity: u64, k: u64) -> Result<Division, Fault>
         ensures { λ r. ⌜ outcome (λ f. (f .capacity, f .parameter)) r ≡ division-made capacity k ⌝ }
     {
-        check_capacity(capacity)?;
+        check_capacity(Layer::Function, capacity)?;
         if k < 1 || k > capacity {
             return Err(declined(Refusal::Parameter, k));
         }
-        Ok(Division { capacity, parameter: k })
+        Ok(Division {
+            capacity,
+            parameter: k,
+        })
     }
 }
 

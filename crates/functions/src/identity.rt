@@ -4,11 +4,12 @@ ghost use Rattle.dual_feasible.specs.Laws.{InRange};
 ghost use Rattle.faults.specs.Faults.{outcome};
 ghost use Rattle.functions.specs.Made.{identity-made};
 ghost use Rattle.functions.specs.Values.{identity};
-use crate::checks::check_capacity;
 use dual_feasible::DualFeasible;
 use dual_feasible::Superadditive;
-use dual_feasible::check_size;
+use dual_feasible::checks::check_capacity;
+use dual_feasible::checks::check_size;
 use faults::Fault;
+use faults::Layer;
 
 #[derive(Drop)]
 pub struct Identity {
@@ -21,7 +22,7 @@ impl Identity {
     pub fn new(capacity: u64) -> Result<Identity, Fault>
         ensures { λ r. ⌜ outcome (λ f. f .capacity) r ≡ identity-made capacity ⌝ }
     {
-        check_capacity(capacity)?;
+        check_capacity(Layer::Function, capacity)?;
         Ok(Identity { capacity })
     }
 }

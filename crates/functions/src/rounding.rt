@@ -5,13 +5,14 @@ ghost use Rattle.dual_feasible.specs.Laws.{InRange};
 ghost use Rattle.faults.specs.Faults.{outcome};
 ghost use Rattle.functions.specs.Made.{rounding-made};
 ghost use Rattle.functions.specs.Values.{rounding, rounding-image};
-use crate::checks::GREATEST;
-use crate::checks::check_capacity;
 use crate::checks::declined;
 use dual_feasible::DualFeasible;
 use dual_feasible::Superadditive;
-use dual_feasible::check_size;
+use dual_feasible::checks::GREATEST;
+use dual_feasible::checks::check_capacity;
+use dual_feasible::checks::check_size;
 use faults::Fault;
+use faults::Layer;
 use faults::Refusal;
 
 #[derive(Drop)]
@@ -29,14 +30,17 @@ impl Rounding {
     pub fn new(capacity: u64, k: u64) -> Result<Rounding, Fault>
         ensures { λ r. ⌜ outcome (λ f. (f .capacity, f .parameter)) r ≡ rounding-made capacity k ⌝ }
     {
-        check_capacity(capacity)?;
+        check_capacity(Layer::Function, capacity)?;
         if k < 1 || k > 1_000 {
             return Err(declined(Refusal::Parameter, k));
         }
         if capacity * k > GREATEST {
             return Err(declined(Refusal::ImageCapacity, capacity));
         }
-        Ok(Rounding { capacity, parameter: k })
+        Ok(Rounding {
+            capacity,
+            parameter: k,
+        })
     }
 }
 

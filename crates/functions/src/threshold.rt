@@ -5,12 +5,13 @@ ghost use Rattle.dual_feasible.specs.Laws.{InRange};
 ghost use Rattle.faults.specs.Faults.{outcome};
 ghost use Rattle.functions.specs.Made.{threshold-made};
 ghost use Rattle.functions.specs.Values.{threshold};
-use crate::checks::check_capacity;
 use crate::checks::declined;
 use dual_feasible::DualFeasible;
 use dual_feasible::Superadditive;
-use dual_feasible::check_size;
+use dual_feasible::checks::check_capacity;
+use dual_feasible::checks::check_size;
 use faults::Fault;
+use faults::Layer;
 use faults::Refusal;
 
 #[derive(Drop)]
@@ -26,11 +27,14 @@ impl Threshold {
     pub fn new(capacity: u64, t: u64) -> Result<Threshold, Fault>
         ensures { λ r. ⌜ outcome (λ f. (f .capacity, f .parameter)) r ≡ threshold-made capacity t ⌝ }
     {
-        check_capacity(capacity)?;
+        check_capacity(Layer::Function, capacity)?;
         if t > capacity / 2 {
             return Err(declined(Refusal::Parameter, t));
         }
-        Ok(Threshold { capacity, parameter: t })
+        Ok(Threshold {
+            capacity,
+            parameter: t,
+        })
     }
 }
 

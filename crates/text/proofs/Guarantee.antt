@@ -17,10 +17,11 @@ use Rattle.faults.specs.declared.Layer.the-variants.{Function}
 use Rattle.faults.specs.declared.Refusal.the-variants.{Capacity, Parameter, ImageCapacity}
 use Rattle.faults.specs.Faults.{fault, refuse, outside}
 use Rattle.plans.specs.Plans.{AtLeast}
+use Rattle.dual_feasible.specs.Answers.{capacity-check}
 use Rattle.dual_feasible.specs.Laws.{Lawful, InRange, greatest}
 use Rattle.bounds.specs.Bounds.{bound}
 use Rattle.bounds.proofs.Sound.{bound-sound}
-use Rattle.functions.specs.Made.{identity-made, capacity-check}
+use Rattle.functions.specs.Made.{identity-made}
 use Rattle.functions.specs.Values.{identity}
 use Rattle.functions.proofs.SuperadditiveValues.{threshold-lawful, rounding-lawful, division-lawful}
 use Rattle.functions.proofs.CountingLaw.{counting-lawful}
@@ -43,7 +44,7 @@ within : (low high n : ℕ) → outside low high n ≡ false → (low ≤ n) × 
 within low high n e = let p = or-parts (ltb n low) (ltb high n) e in (ltb-false n low (p .0), ltb-false high n (p .1))
 
 -- the capacity of a function that can be made
-in-range : {X : Type 0} (c : ℕ) (later : Result X Fault) → isOk (capacity-check c later) ≡ true → InRange c × (isOk later ≡ true)
+in-range : {X : Type 0} (c : ℕ) (later : Result X Fault) → isOk (capacity-check Function c later) ≡ true → InRange c × (isOk later ≡ true)
 in-range c later e = let p = passed (outside 1 greatest c) (fault Capacity Function c) later e in (within 1 greatest c (p .0), p .1)
 
 -- a row's function that can be made is lawful

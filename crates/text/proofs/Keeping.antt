@@ -61,7 +61,7 @@ word-kept None Bar n s t is kept e =
       bar = h .0;
       few = rw (kept .0) (omega arith);
       sized = rw (kept .0) tt;
-      made = rw (kept .1) tt
+      made = rw (kept .1) tt;
     })
 word-kept None Cut n s t is kept e = absurd (no-answer _ t e)
 word-kept None (RowWord kind) n s t is kept e = absurd (no-answer _ t e)
@@ -72,24 +72,24 @@ word-kept (Some c) Cut n s t is kept e =
     let o = or-parts (ltb n 1) (ltb c n) (h .0) in
     subst KeptSaid (same-said _ t (k .1))
     (rw is
-      (record {
-        bar = kept .bar;
-        few = omega (arith, length-push (s .cuts) n, leb-false 64 (length (s .cuts)) (k .0));
-        sized = all-push (λ m. m ≤ c) (s .cuts) n (kept .sized) (ltb-false c n (o .1));
-        made = kept .made
-      }))
+    (record {
+      bar = kept .bar;
+      few = omega (arith, length-push (s .cuts) n, leb-false 64 (length (s .cuts)) (k .0));
+      sized = all-push (λ m. m ≤ c) (s .cuts) n (kept .sized) (ltb-false c n (o .1));
+      made = kept .made;
+    }))
 word-kept (Some c) (RowWord kind) n s t is kept e =
     let row : Row = record { kind = kind; parameter = n } in
     let h = passed (leb 8 (length (s .rows))) TooMany _ t e in
     let k = was-made (row-made kind c n) _ t (h .1) in
     subst KeptSaid (same-said _ t (k .1))
     (rw is
-      (record {
-        bar = kept .bar;
-        few = kept .few;
-        sized = kept .sized;
-        made = all-push (λ (r : Row). isOk (row-made (r .kind) c (r .parameter)) ≡ true) (s .rows) row (kept .made) (k .0)
-      }))
+    (record {
+      bar = kept .bar;
+      few = kept .few;
+      sized = kept .sized;
+      made = all-push (λ (r : Row). isOk (row-made (r .kind) c (r .parameter)) ≡ true) (s .rows) row (kept .made) (k .0);
+    }))
 
 entry-kept : (e : Option (Word × ℕ)) (s t : Said) → KeptSaid s → entry-heard e s ≡ Ok t → KeptSaid t
 entry-kept None s t kept p = absurd (no-answer _ t p)
@@ -108,7 +108,7 @@ scan-kept l s line [] t kept e =
 scan-kept l s line (b ∷ bytes) t kept e =
     ⊎-elim
     (λ (p : eqb b 10 ≡ true).
-        go-kept (line-heard line s) l (λ u. scanned (l + 1) u [] bytes) t (λ u q. entry-kept (entry-of line) s u kept q) (λ u k q. scan-kept (l + 1) u [] bytes t k q) (rw p at e))
+    go-kept (line-heard line s) l (λ u. scanned (l + 1) u [] bytes) t (λ u q. entry-kept (entry-of line) s u kept q) (λ u k q. scan-kept (l + 1) u [] bytes t k q) (rw p at e))
     (λ (p : eqb b 10 ≡ false). scan-kept l s (line ++ b ∷ []) bytes t kept (rw p at e))
     (cases-bool (eqb b 10))
 

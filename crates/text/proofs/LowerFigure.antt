@@ -3,7 +3,6 @@ use mathlib.Core.Bool.{true}
 use mathlib.Core.List.{List}
 use mathlib.Core.Path.{_≡_, refl, ap}
 use Prim.Native.Nat.{ℕ, _≤_, _<_}
-
 use lib.ListN.{length, getD}
 use Rattle.std.specs.Results.{isOk}
 use Rattle.std.specs.declared.result.Result.{Result}
@@ -24,7 +23,7 @@ use Rattle.text.specs.declared.listing.Row.{Row}
 
 -- a function that can be made answers its bound
 pub bound-told : {X : Type 0} (m : Result X Fault) (c : ℕ) (number : List ℕ → ℕ) (cuts : List ℕ) → isOk m ≡ true → length cuts ≤ 64 → All (λ s. s ≤ c) cuts
-  → when-made m (asked c number cuts) ≡ Ok (number cuts)
+    → when-made m (asked c number cuts) ≡ Ok (number cuts)
 bound-told (Ok x) c number cuts e few h = asked-number c number cuts few h
 bound-told (Err f) c number cuts e few h = absurd (false≢true e)
 
@@ -39,7 +38,7 @@ module _ (c : ℕ) (cuts : List ℕ) (rows : List Row) (kept : Kept c cuts rows)
 
   -- and so is each row's
   pub row-told : (i : ℕ) → i < length rows
-    → when-made (row-made (getD rows i first-row .kind) c (getD rows i first-row .parameter)) (asked c (λ list. row-bound c list (getD rows i first-row)) cuts) ≡ Ok (row-bound c cuts (getD rows i first-row))
+      → when-made (row-made (getD rows i first-row .kind) c (getD rows i first-row .parameter)) (asked c (λ list. row-bound c list (getD rows i first-row)) cuts) ≡ Ok (row-bound c cuts (getD rows i first-row))
   row-told i h =
       let row = getD rows i first-row in
       bound-told (row-made (row .kind) c (row .parameter)) c (λ list. row-bound c list row) cuts (all-getD (λ (r : Row). isOk (row-made (r .kind) c (r .parameter)) ≡ true) rows i first-row h (kept .made)) (kept .few) (kept .sized)

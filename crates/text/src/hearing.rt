@@ -19,6 +19,7 @@ use std::alloc::AllocError;
 use std::alloc::Global;
 
 const MOST_CUTS: usize = 64;
+
 const MOST_ROWS: usize = 8;
 
 // Whether the function of a row can be made for the capacity.
@@ -49,7 +50,11 @@ impl Listing {
     {
         let cuts = Vec::with_capacity(heap, MOST_CUTS)?;
         let rows = Vec::with_capacity(heap, MOST_ROWS)?;
-        Ok(Listing { bar: None, cuts, rows })
+        Ok(Listing {
+            bar: None,
+            cuts,
+            rows,
+        })
     }
 
     fn set_bar(&mut self, number: u64) -> Result<(), Refusal>
@@ -96,7 +101,13 @@ impl Listing {
         match (self.bar, word) {
             (None, Word::Bar) => self.set_bar(number),
             (Some(capacity), Word::Cut) => self.add_cut(capacity, number),
-            (Some(capacity), Word::Row(kind)) => self.add_row(capacity, Row { kind, parameter: number }),
+            (Some(capacity), Word::Row(kind)) => self.add_row(
+                capacity,
+                Row {
+                    kind,
+                    parameter: number,
+                },
+            ),
             (None, Word::Cut | Word::Row(_)) | (Some(_), Word::Bar) => Err(Refusal::Malformed),
         }
     }

@@ -45,8 +45,14 @@ pub fn answer(heap: Global, input: &[u8]) -> Result<Printed, AllocError>
     match listing.read(input) {
         Ok(capacity) => {
             let lower = lower_figure(capacity, listing.cuts.as_slice(), listing.rows.as_slice());
-            Ok(Printed { text: lower_line(heap, lower)?, refused: false })
+            Ok(Printed {
+                text: lower_line(heap, lower)?,
+                refused: false,
+            })
         }
-        Err(stop) => Ok(Printed { text: refused_line(heap, stop.refusal.number(), stop.line)?, refused: true }),
+        Err(stop) => Ok(Printed {
+            text: refused_line(heap, stop.refusal.number(), stop.line)?,
+            refused: true,
+        }),
     }
 }

@@ -32,7 +32,10 @@ impl Listing {
             }
         }
         if start < text.len() {
-            return Err(Stop { refusal: Refusal::Malformed, line });
+            return Err(Stop {
+                refusal: Refusal::Malformed,
+                line,
+            });
         }
         Ok(())
     }
@@ -42,11 +45,17 @@ impl Listing {
         ensures { λ r. ⌜ listed r (said (now (self .exit))) ≡ list-from (said (now (self .entry))) (now (text .entry)) ⌝ }
     {
         if text.len() > MOST_BYTES {
-            return Err(Stop { refusal: Refusal::Malformed, line: 0 });
+            return Err(Stop {
+                refusal: Refusal::Malformed,
+                line: 0,
+            });
         }
         self.scan(text)?;
         let Some(capacity) = self.bar else {
-            return Err(Stop { refusal: Refusal::Malformed, line: 1 });
+            return Err(Stop {
+                refusal: Refusal::Malformed,
+                line: 1,
+            });
         };
         Ok(capacity)
     }

@@ -18,7 +18,7 @@ use Rattle.bounds.proofs.lower_bound.Needs as need
 
 -- the law of the function gives the second clause, at every return
 least-of : (g : given.Over) (f : g .F .Denot) (list : List ℕ)
-  → AtLeast (g .F·DualFeasible .capacity f) list (bound (g .F·DualFeasible .image f) (g .F·DualFeasible .map f) list)
+    → AtLeast (g .F·DualFeasible .capacity f) list (bound (g .F·DualFeasible .image f) (g .F·DualFeasible .map f) list)
 least-of g f list =
     bound-sound (g .F·DualFeasible .capacity f) (g .F·DualFeasible .image f) (g .F·DualFeasible .map f) (g .F·DualFeasible·met .limits f .1 .0) (g .F·DualFeasible·met .lawful f) list
 
@@ -26,7 +26,7 @@ pub returns-then-list-gt-MOST : need.returns-then-list-gt-MOST
 returns-then-list-gt-MOST g c =
     record {
       answer = rw (lt-ltb 64 (length (c .args .list .now)) (c .if-list-gt-MOST .taken));
-      least = least-of g (c .args .f .now) (c .args .list .now)
+      least = least-of g (c .args .f .now) (c .args .list .now);
     }
 
 pub returns-in-rest : need.returns-in-rest
@@ -34,15 +34,15 @@ returns-in-rest g c =
     let above = refusal-told (g .F·DualFeasible .capacity (c .args .f .now)) (g .F·DualFeasible .map (c .args .f .now)) (getD (c .args .list .now) (c .loop-i .i) 0) (c .in-rest .field-0) (c .in-rest .ensures tt) in
     record {
       answer =
-        rw (le-ltb 64 (length (c .args .list .now)) (c .if-list-gt-MOST .left))
-        (sym (c .loop-i .inv .2 _ ∙ entry-refused (g .F·DualFeasible .capacity (c .args .f .now)) (c .args .list .now) (c .loop-i .i) _ (c .loop-i-test .taken) above));
-      least = least-of g (c .args .f .now) (c .args .list .now)
+          rw (le-ltb 64 (length (c .args .list .now)) (c .if-list-gt-MOST .left))
+          (sym (c .loop-i .inv .2 _ ∙ entry-refused (g .F·DualFeasible .capacity (c .args .f .now)) (c .args .list .now) (c .loop-i .i) _ (c .loop-i-test .taken) above));
+      least = least-of g (c .args .f .now) (c .args .list .now);
     }
 
 -- what is known where the value of an entry was told
 told : (g : given.Over) (c : need.In-Ok g)
-  → (getD (c .args .list .now) (c .loop-i .i) 0 ≤ g .F·DualFeasible .capacity (c .args .f .now))
-  × (c .in-Ok .value ≡ g .F·DualFeasible .map (c .args .f .now) (getD (c .args .list .now) (c .loop-i .i) 0))
+    → (getD (c .args .list .now) (c .loop-i .i) 0 ≤ g .F·DualFeasible .capacity (c .args .f .now))
+    × (c .in-Ok .value ≡ g .F·DualFeasible .map (c .args .f .now) (getD (c .args .list .now) (c .loop-i .i) 0))
 told g c =
     value-told (g .F·DualFeasible .capacity (c .args .f .now)) (g .F·DualFeasible .map (c .args .f .now)) (getD (c .args .list .now) (c .loop-i .i) 0) (c .in-Ok .value) (c .in-Ok .ensures tt)
 
@@ -62,10 +62,11 @@ loop-i-again g c =
     let t = told g c in
     let list = c .args .list .now in
     let i = c .loop-i .i in
-    let v = g .F·DualFeasible .map (c .args .f .now) in
-    (omega (arith, small g c),
+    let v = g .F·DualFeasible .map (c .args .f .now) in (
+      omega (arith, small g c),
       omega (arith, at-drop-more (total v) list i 0 (c .loop-i-test .taken)),
-      λ later. c .loop-i .inv .2 later ∙ entry-passes (g .F·DualFeasible .capacity (c .args .f .now)) list i later (c .loop-i-test .taken) (t .0))
+      λ later. c .loop-i .inv .2 later ∙ entry-passes (g .F·DualFeasible .capacity (c .args .f .now)) list i later (c .loop-i-test .taken) (t .0),
+    )
 
 pub add-result : need.add-result
 add-result g c = omega (arith, g .F·DualFeasible·met .limits (c .args .f .now) .1 .1, ap (λ (p : ℕ × ℕ). p .1) (c .capacities-image .ensures))
@@ -77,7 +78,7 @@ returns g c =
     let e : c .loop-i .total ≡ total (g .F·DualFeasible .map (c .args .f .now)) list = omega (arith, at-drop-all (total (g .F·DualFeasible .map (c .args .f .now))) list (c .loop-i .i) (c .loop-i-test .left)) in
     record {
       answer =
-        rw (le-ltb 64 (length list) (c .if-list-gt-MOST .left), d, e)
-        (sym (c .loop-i .inv .2 _ ∙ entries-passed (g .F·DualFeasible .capacity (c .args .f .now)) list (c .loop-i .i) _ (c .loop-i-test .left)));
-      least = least-of g (c .args .f .now) list
+          rw (le-ltb 64 (length list) (c .if-list-gt-MOST .left), d, e)
+          (sym (c .loop-i .inv .2 _ ∙ entries-passed (g .F·DualFeasible .capacity (c .args .f .now)) list (c .loop-i .i) _ (c .loop-i-test .left)));
+      least = least-of g (c .args .f .now) list;
     }

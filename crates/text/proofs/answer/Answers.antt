@@ -29,5 +29,5 @@ returns-in-Ok c =
     record {
       text = c .in-Continue-lower-line .ensures tt ∙ ap lower-line told ∙ ap printed read;
       refused = ap isErr read;
-      least = no-fewer-bars (c .args .input .now)
+      least = no-fewer-bars (c .args .input .now);
     }

@@ -16,17 +16,19 @@ loop-i-again c =
     let i = c .loop-i .i in
     let line = c .loop-i .line in
     elim (c .if-b-eq10 .came) [
-      then-b-eq10·in-rest w ↦
-        (omega arith,
-          omega arith,
-          rw (w .line-is, w .start-is, w .self-is)
-          (sym (scan-line text start i line (said (c .loop-i .self)) (said (w .take-line .last .self)) (c .loop-i-test .taken) (w .if-b-eq10 .taken) (sym (w .in-rest .ensures tt)))
-            ∙ c .loop-i .inv .2))
-    | else-b-eq10 w ↦
-        (omega arith,
-          omega arith,
-          rw (w .line-is, w .start-is, w .self-is)
-          (sym (scan-byte text start i line (said (c .loop-i .self)) (c .loop-i .inv .0) (c .loop-i-test .taken) (w .if-b-eq10 .left)) ∙ c .loop-i .inv .2))
+      | then-b-eq10·in-rest w ↦ (
+        omega arith,
+        omega arith,
+        rw (w .line-is, w .start-is, w .self-is)
+            (sym (scan-line text start i line (said (c .loop-i .self)) (said (w .take-line .last .self)) (c .loop-i-test .taken) (w .if-b-eq10 .taken) (sym (w .in-rest .ensures tt)))
+            ∙ c .loop-i .inv .2),
+      )
+      | else-b-eq10 w ↦ (
+        omega arith,
+        omega arith,
+        rw (w .line-is, w .start-is, w .self-is)
+            (sym (scan-byte text start i line (said (c .loop-i .self)) (c .loop-i .inv .0) (c .loop-i-test .taken) (w .if-b-eq10 .left)) ∙ c .loop-i .inv .2),
+      )
     ]
 
 pub returns-then-start-text : need.returns-then-start-text
