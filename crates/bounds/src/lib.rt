@@ -1,5 +1,6 @@
 // Lower bounds on the number of bars that a list of sizes needs.
 ghost use mathlib.Core.Path.{_≡_};
+ghost use Prim.Native.Nat.{_+_, _-_, _/_, _^_, _<_, _≤_};
 ghost use Rattle.plans.specs.Plans.{AtLeast};
 ghost use Rattle.bounds.specs.Bounds.{asked, bound};
 use dual_feasible::DualFeasible;
@@ -9,6 +10,15 @@ use faults::Refusal;
 
 // A list has at most this many entries.
 const MOST: usize = 64;
+
+// A quotient, rounded up.
+fn rounded_up(total: u64, image: u64) -> u64
+    requires positive { ⌜ 1 ≤ image ⌝ }
+    requires fits { ⌜ total + image < 2 ^ 64 ⌝ }
+    ensures { λ r. ⌜ r ≡ (total + (image - 1)) / image ⌝ }
+{
+    (total + (image - 1)) / image
+}
 
 // The bound of a dual feasible function: the values of the list added up, divided by the image capacity and rounded up.
 // A list of more than 64 entries is refused with 6, then the first entry above the capacity with 4 and its position.
@@ -36,5 +46,5 @@ pub fn lower_bound<F: DualFeasible>(f: &F, list: &[u64]) -> Result<u64, Fault>
         };
         total += value;
     }
-    Ok((total + (image - 1)) / image)
+    Ok(rounded_up(total, image))
 }

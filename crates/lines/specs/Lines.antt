@@ -1,5 +1,5 @@
 -- What one line says.
-use mathlib.Core.Bool.{Bool, cond, not, _&&_, _||_}
+use mathlib.Core.Bool.{Bool, false, cond, not, _&&_, _||_}
 use mathlib.Core.List.{List, [], _∷_}
 use Prim.Native.Nat.{ℕ, _+_, _-_, _*_}
 use lib.Chars.{codes}
@@ -36,11 +36,13 @@ abbrev pub digits-from : ℕ → List ℕ → Option ℕ
 digits-from n [] = Some n
 digits-from n (b ∷ bytes) = cond (ltb b 48 || ltb 57 b) None (digits-from (n * 10 + (b - 48)) bytes)
 
--- 1 to 10 digits, of which the first is no 0 unless it is the only one
+-- 1 to 10 bytes, of which the first is no 0 unless it is the only one
+abbrev pub in-form : List ℕ → Bool
+in-form [] = false
+in-form (b ∷ bytes) = ltb (length bytes) 10 && (not (eqb b 48) || eqb (length bytes) 0)
+
 abbrev pub numeral : List ℕ → Option ℕ
-numeral bytes =
-    cond (eqb (length bytes) 0 || ltb 10 (length bytes)) None
-    (cond (eqb (getD bytes 0 0) 48 && ltb 1 (length bytes)) None (digits-from 0 bytes))
+numeral bytes = cond (in-form bytes) (digits-from 0 bytes) None
 
 -- byte 32 is the blank
 abbrev pub not-blank : ℕ → Bool

@@ -2,7 +2,7 @@
 ghost use mathlib.Core.Path.{_≡_};
 ghost use Rattle.std.specs.shelf.Lists.{leading};
 ghost use Rattle.std.specs.shelf.Text.{sameBytes};
-ghost use Rattle.lines.specs.Lines.{word-of, numeral, not-blank, entry-of};
+ghost use Rattle.lines.specs.Lines.{word-of, in-form, numeral, not-blank, entry-of};
 
 // The function that a row names.
 #[derive(Clone, Copy)]
@@ -50,14 +50,22 @@ fn spelled_word(text: &[u8]) -> Option<Word>
     }
 }
 
+// Whether there are 1 to 10 bytes, and no 0 in front of another byte.
+fn short_and_plain(text: &[u8]) -> bool
+    ensures { λ r. ⌜ r ≡ in-form (now (text .entry)) ⌝ }
+{
+    match text {
+        [] => false,
+        [b'0', _, ..] => false,
+        _ => text.len() <= 10,
+    }
+}
+
 // The number that the bytes write: 1 to 10 digits, with no zero in front of another digit.
 fn number(text: &[u8]) -> Option<u64>
     ensures { λ r. ⌜ r ≡ numeral (now (text .entry)) ⌝ }
 {
-    if text.is_empty() || text.len() > 10 {
-        return None;
-    }
-    if text[0] == b'0' && text.len() > 1 {
+    if !short_and_plain(text) {
         return None;
     }
     let mut n: u64 = 0;

@@ -6,7 +6,9 @@ use native.Mathlib.Omega.{arith}
 use lib.ListN.{length, getD, drop}
 use Rattle.std.proofs.shelf.Lists.{at-drop-more, at-drop-all}
 use Rattle.std.proofs.shelf.Tests.{lt-ltb, le-ltb}
+use Rattle.std.specs.declared.result.Result.{Result}
 use Rattle.std.specs.declared.result.Result.the-variants.{Ok}
+use Rattle.faults.specs.declared.Fault.{Fault}
 use Rattle.plans.specs.Plans.{total, AtLeast}
 use Rattle.dual_feasible.proofs.Lawful.{value-below}
 use Rattle.dual_feasible.proofs.Questions.{value-told, refusal-told}
@@ -32,10 +34,11 @@ returns-then-list-gt-MOST g c =
 pub returns-in-rest : need.returns-in-rest
 returns-in-rest g c =
     let above = refusal-told (g .F·DualFeasible .capacity (c .args .f .now)) (g .F·DualFeasible .map (c .args .f .now)) (getD (c .args .list .now) (c .loop-i .i) 0) (c .in-rest .field-0) (c .in-rest .ensures tt) in
+    let later : Result ℕ Fault = Ok (bound (g .F·DualFeasible .image (c .args .f .now)) (g .F·DualFeasible .map (c .args .f .now)) (c .args .list .now)) in
     record {
       answer =
           rw (le-ltb 64 (length (c .args .list .now)) (c .if-list-gt-MOST .left))
-          (sym (c .loop-i .inv .2 _ ∙ entry-refused (g .F·DualFeasible .capacity (c .args .f .now)) (c .args .list .now) (c .loop-i .i) _ (c .loop-i-test .taken) above));
+          (sym (c .loop-i .inv .2 later ∙ entry-refused (g .F·DualFeasible .capacity (c .args .f .now)) (c .args .list .now) (c .loop-i .i) later (c .loop-i-test .taken) above));
       least = least-of g (c .args .f .now) (c .args .list .now);
     }
 
@@ -68,17 +71,23 @@ loop-i-again g c =
       λ later. c .loop-i .inv .2 later ∙ entry-passes (g .F·DualFeasible .capacity (c .args .f .now)) list i later (c .loop-i-test .taken) (t .0),
     )
 
-pub add-result : need.add-result
-add-result g c = omega (arith, g .F·DualFeasible·met .limits (c .args .f .now) .1 .1, ap (λ (p : ℕ × ℕ). p .1) (c .capacities-image .ensures))
+pub rounded-up-requires : need.rounded-up-requires
+rounded-up-requires g c κs =
+    let d = ap (λ (p : ℕ × ℕ). p .1) (c .capacities-image .ensures) in
+    let limits = g .F·DualFeasible·met .limits (c .args .f .now) .1 in
+    record { positive = omega arith; fits = omega arith }
 
 pub returns : need.returns
 returns g c =
     let list = c .args .list .now in
+    let v = g .F·DualFeasible .map (c .args .f .now) in
     let d : c .capacities-image .result .1 ≡ g .F·DualFeasible .image (c .args .f .now) = ap (λ (p : ℕ × ℕ). p .1) (c .capacities-image .ensures) in
-    let e : c .loop-i .total ≡ total (g .F·DualFeasible .map (c .args .f .now)) list = omega (arith, at-drop-all (total (g .F·DualFeasible .map (c .args .f .now))) list (c .loop-i .i) (c .loop-i-test .left)) in
+    let e : c .loop-i .total ≡ total v list = omega (arith, at-drop-all (total v) list (c .loop-i .i) (c .loop-i-test .left)) in
+    let later : Result ℕ Fault = Ok (bound (g .F·DualFeasible .image (c .args .f .now)) v list) in
+    let b : c .rounded-up .result ≡ bound (g .F·DualFeasible .image (c .args .f .now)) v list = c .rounded-up .ensures ∙ rw (d, e) in
     record {
       answer =
-          rw (le-ltb 64 (length list) (c .if-list-gt-MOST .left), d, e)
-          (sym (c .loop-i .inv .2 _ ∙ entries-passed (g .F·DualFeasible .capacity (c .args .f .now)) list (c .loop-i .i) _ (c .loop-i-test .left)));
+          rw (le-ltb 64 (length list) (c .if-list-gt-MOST .left), b)
+          (sym (c .loop-i .inv .2 later ∙ entries-passed (g .F·DualFeasible .capacity (c .args .f .now)) list (c .loop-i .i) later (c .loop-i-test .left)));
       least = least-of g (c .args .f .now) list;
     }
