@@ -14,19 +14,21 @@ use Rattle.lines.specs.declared.Word.{Word}
 use Rattle.lines.specs.declared.Word.the-variants.{Bar, Cut, Row}
 
 -- how each word is spelled
-abbrev pub words : List (List ℕ × Word)
-words =
-    (codes "bar", Bar)
-    ∷ (codes "cut", Cut)
-    ∷ (codes "threshold", Row Threshold)
-    ∷ (codes "rounding", Row Rounding)
-    ∷ (codes "division", Row Division)
-    ∷ (codes "counting", Row Counting)
-    ∷ []
+abbrev pub spelling : Word → List ℕ
+spelling Bar = codes "bar"
+spelling Cut = codes "cut"
+spelling (Row Threshold) = codes "threshold"
+spelling (Row Rounding) = codes "rounding"
+spelling (Row Division) = codes "division"
+spelling (Row Counting) = codes "counting"
 
-abbrev pub spelled : List ℕ → List (List ℕ × Word) → Option Word
+abbrev pub words : List Word
+words = Bar ∷ Cut ∷ Row Threshold ∷ Row Rounding ∷ Row Division ∷ Row Counting ∷ []
+
+-- the one of the words that the text spells
+abbrev pub spelled : List ℕ → List Word → Option Word
 spelled text [] = None
-spelled text (w ∷ more) = cond (sameBytes text (w .0)) (Some (w .1)) (spelled text more)
+spelled text (w ∷ more) = cond (sameBytes text (spelling w)) (Some w) (spelled text more)
 
 abbrev pub word-of : List ℕ → Option Word
 word-of text = spelled text words
