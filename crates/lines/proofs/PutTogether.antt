@@ -14,15 +14,18 @@ use Rattle.std.specs.Text.{asciiDigit}
 use Rattle.std.specs.Written.{decimal}
 use Rattle.std.specs.declared.option.Option.{Option}
 use Rattle.std.specs.declared.option.Option.the-variants.{Some, None}
-use Rattle.std.specs.shelf.Lists.{leading}
+use Rattle.std.specs.shelf.Lists.{leading, All}
 use Rattle.std.specs.shelf.Text.{sameBytes, allDigits}
-use Rattle.std.proofs.shelf.Decimals.{decimal-value}
+use Rattle.std.proofs.shelf.Decimals.{decimal-value, decimal-digit, decimal-some, first-decimal, length-decimal-le, digits-decimal, value-decimal}
+use Rattle.std.proofs.shelf.Elements.{all-append}
 use Rattle.std.proofs.shelf.Equals.{sameBytes-decides}
 use Rattle.std.proofs.shelf.Lists.{take-append-drop}
 use Rattle.std.proofs.shelf.Numerals.{Numerals, numerals-by-fold, value-short}
-use Rattle.std.proofs.shelf.Tests.{cases-bool, and-from, eqb-true, or-parts, and-parts, ltb-true, ltb-false}
+use Rattle.std.proofs.shelf.Tests.{cases-bool, cases-eq, both-ways, and-from, and-parts, or-parts, or-left, or-right, not-from-false, not-true, eqb-true, eqb-false, eq-eqb, ne-eqb, ltb-true, ltb-false, lt-ltb}
 use Rattle.std.proofs.shelf.Ways.{tells}
+use Rattle.lines.specs.declared.Kind.the-variants.{Threshold, Rounding, Division, Counting}
 use Rattle.lines.specs.declared.Word.{Word}
+use Rattle.lines.specs.declared.Word.the-variants.{Bar, Cut, Row}
 use Rattle.lines.specs.Lines.{spelling, words, spelled, word-of, digits-from, in-form, numeral, not-blank, both, entry-of}
 
 -- nothing is no answer
@@ -108,3 +111,74 @@ entry-written line w n e =
     let word = spelled-is (take k line) words w (p .0) in
     let number = numeral-is (drop (k + 1) line) n (p .1) in
     (at-blank line (number .1) ∙ ap (λ front. front ++ (32 ∷ drop (k + 1) line)) word ∙ ap (λ back. spelling w ++ (32 ∷ back)) (number .0), number .2)
+
+digits-read : (n : ℕ) (ds : List ℕ) → allDigits ds ≡ true → digits-from n ds ≡ Some (read-on n ds)
+digits-read n [] e = refl
+digits-read n (d ∷ ds) e =
+    let p = and-parts (asciiDigit d) (allDigits ds) e in
+    let digit : (ltb d 48 || ltb 57 d) ≡ false = grind (arith, tells) in
+    let same : n * 10 + (d - 48) ≡ 10 * n + (d - 48) = omega (arith, mul-comm n 10) in
+    rw digit (digits-read (n * 10 + (d - 48)) ds (p .1) ∙ ap (λ k. Some (read-on k ds)) same)
+
+plain-form : (ds : List ℕ) → 0 < length ds → length ds ≤ 10 → (getD ds 0 0 ≡ 48 → length ds ≡ 1) → in-form ds ≡ true
+plain-form [] some short plain = absurd (let z : ⊥ = omega arith in z)
+plain-form (d ∷ ds) some short plain =
+    and-from (ltb (length ds) 10) (not (eqb d 48) || eqb (length ds) 0) (lt-ltb (length ds) 10 (omega arith))
+    (⊎-elim
+      (λ (z : d ≡ 48). let one : length ds ≡ 0 = omega (arith, plain z) in or-right (not (eqb d 48)) (eqb (length ds) 0) (eq-eqb (length ds) 0 one))
+      (λ (z : d ≡ 48 → ⊥). or-left (not (eqb d 48)) (eqb (length ds) 0) (not-from-false (eqb d 48) (ne-eqb d 48 z)))
+      (cases-eq d 48))
+
+-- only 0 is written with a 0 in front
+decimal-plain : (n : ℕ) → n < 2 ^ 64 → getD (decimal n) 0 0 ≡ 48 → length (decimal n) ≡ 1
+decimal-plain n h e =
+    ⊎-elim
+    (λ (z : n ≡ 0). ap (λ k. length (decimal k)) z ∙ ap length (decimal-digit 0 (omega arith)))
+    (λ (z : n ≡ 0 → ⊥). absurd (let f = first-decimal n (omega arith) h in let g : ⊥ = omega arith in g))
+    (cases-eq n 0)
+
+-- a number below 10 ^ 10 is read from the digits that it is written with
+numeral-reads : (n : ℕ) → n < 10 ^ 10 → numeral (decimal n) ≡ Some n
+numeral-reads n h =
+    let small : n < 2 ^ 64 = omega arith in
+    let form = plain-form (decimal n) (decimal-some n small) (length-decimal-le 10 n (omega arith) h small) (decimal-plain n small) in
+    rw form (digits-read 0 (decimal n) (digits-decimal own n small) ∙ ap Some (value-decimal own n small))
+
+-- a line that is written so has that entry
+pub entry-reads : (w : Word) (n : ℕ) → n < 10 ^ 10 → entry-of (spelling w ++ (32 ∷ decimal n)) ≡ Some (w, n)
+entry-reads Bar n h = ap (both (Some Bar)) (numeral-reads n h)
+entry-reads Cut n h = ap (both (Some Cut)) (numeral-reads n h)
+entry-reads (Row Threshold) n h = ap (both (Some (Row Threshold))) (numeral-reads n h)
+entry-reads (Row Rounding) n h = ap (both (Some (Row Rounding))) (numeral-reads n h)
+entry-reads (Row Division) n h = ap (both (Some (Row Division))) (numeral-reads n h)
+entry-reads (Row Counting) n h = ap (both (Some (Row Counting))) (numeral-reads n h)
+
+-- the test that no byte is a 10
+abbrev one-line : List ℕ → Bool
+one-line [] = true
+one-line (b ∷ bytes) = not (eqb b 10) && one-line bytes
+
+one-line-all : (bytes : List ℕ) → one-line bytes ≡ true → All (λ b. b ≡ 10 → ⊥) bytes
+one-line-all [] e = tt
+one-line-all (b ∷ bytes) e =
+    let p = and-parts (not (eqb b 10)) (one-line bytes) e in
+    (eqb-false b 10 (not-true (eqb b 10) (p .0)), one-line-all bytes (p .1))
+
+spelling-one-line : (w : Word) → one-line (spelling w) ≡ true
+spelling-one-line Bar = refl
+spelling-one-line Cut = refl
+spelling-one-line (Row Threshold) = refl
+spelling-one-line (Row Rounding) = refl
+spelling-one-line (Row Division) = refl
+spelling-one-line (Row Counting) = refl
+
+digits-one-line : (ds : List ℕ) → allDigits ds ≡ true → All (λ b. b ≡ 10 → ⊥) ds
+digits-one-line [] e = tt
+digits-one-line (d ∷ ds) e =
+    let p = and-parts (asciiDigit d) (allDigits ds) e in
+    (λ z. both-ways (asciiDigit d) (ap asciiDigit z) (p .0), digits-one-line ds (p .1))
+
+-- no line that is written so has a byte 10 in it
+pub entry-one-line : (w : Word) (n : ℕ) → n < 10 ^ 10 → All (λ b. b ≡ 10 → ⊥) (spelling w ++ (32 ∷ decimal n))
+entry-one-line w n h =
+    all-append (λ b. b ≡ 10 → ⊥) (spelling w) (32 ∷ decimal n) (one-line-all (spelling w) (spelling-one-line w)) (λ z. omega arith, digits-one-line (decimal n) (digits-decimal own n (omega arith)))
