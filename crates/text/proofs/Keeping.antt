@@ -31,7 +31,7 @@ use Rattle.text.specs.declared.listing.Row.{Row}
 use Rattle.text.specs.declared.reading.Stop.{Stop}
 
 -- a refusal is no answer
-no-answer : {X E : Type 0} (e : E) (x : X) → Err e ≡ Ok x → ⊥
+pub no-answer : {X E : Type 0} (e : E) (x : X) → Err e ≡ Ok x → ⊥
 no-answer e x p = let z : _≡_ {A = ℕ} 0 1 = cc in omega arith
 
 -- before there is a bar, nothing else is said

@@ -4,3 +4,4 @@ pub mod Listings
 pub mod Kept
 pub mod Texts
 pub mod Answers
+pub mod Written

@@ -5,6 +5,7 @@ ghost use Rattle.std.specs.Results.{isErr};
 ghost use Rattle.std.specs.Vec.{made};
 ghost use Rattle.text.specs.Answers.{lower-line, refused-line, printed, NoFewerBars};
 ghost use Rattle.text.specs.Texts.{list-of};
+ghost use Rattle.text.specs.Written.{ReadAsWritten};
 use listing::Listing;
 use lower::lower_figure;
 use std::alloc::AllocError;
@@ -40,6 +41,7 @@ pub fn answer(heap: Global, input: &[u8]) -> Result<Printed, AllocError>
     ensures text { λ r. ⌜ made r (λ p. string-bytes (p .text) ≡ printed (list-of (now (input .entry)))) ⌝ }
     ensures refused { λ r. ⌜ made r (λ p. p .refused ≡ isErr (list-of (now (input .entry)))) ⌝ }
     ensures least { λ _. ⌜ NoFewerBars (list-of (now (input .entry))) ⌝ }
+    ensures lines { λ _. ⌜ ReadAsWritten (now (input .entry)) ⌝ }
 {
     let mut listing = Listing::new(heap)?;
     match listing.read(input) {

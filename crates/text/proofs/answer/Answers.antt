@@ -7,10 +7,11 @@ use Rattle.text.specs.Lower.{lower-of}
 use Rattle.text.specs.Texts.{CuttingList, list-from}
 use Rattle.text.proofs.Guarantee.{no-fewer-bars}
 use Rattle.text.proofs.Keeping.{list-kept}
+use Rattle.text.proofs.WrittenTexts.{read-as-written}
 use Rattle.text.proofs.answer.Needs as need
 
 pub returns-in-Break-listing : need.returns-in-Break-listing
-returns-in-Break-listing c = record { text = search needs; refused = search needs; least = no-fewer-bars (c .args .input .now) }
+returns-in-Break-listing c = record { text = search needs; refused = search needs; least = no-fewer-bars (c .args .input .now); lines = read-as-written (c .args .input .now) }
 
 pub lower-figure-lower-requires : need.lower-figure-lower-requires
 lower-figure-lower-requires c κs =
@@ -19,7 +20,7 @@ lower-figure-lower-requires c κs =
     rw (c .as-slice .ensures .value, c .as-slice-in-Ok .ensures .value) (list-kept (c .args .input .now) list (sym read))
 
 pub returns-in-Break-lower-line : need.returns-in-Break-lower-line
-returns-in-Break-lower-line c = record { text = search needs; refused = search needs; least = no-fewer-bars (c .args .input .now) }
+returns-in-Break-lower-line c = record { text = search needs; refused = search needs; least = no-fewer-bars (c .args .input .now); lines = read-as-written (c .args .input .now) }
 
 pub returns-in-Ok : need.returns-in-Ok
 returns-in-Ok c =
@@ -30,4 +31,11 @@ returns-in-Ok c =
       text = c .in-Continue-lower-line .ensures tt ∙ ap lower-line told ∙ ap printed read;
       refused = ap isErr read;
       least = no-fewer-bars (c .args .input .now);
+      lines = read-as-written (c .args .input .now)
     }
+
+pub returns-in-Break-refused-line : need.returns-in-Break-refused-line
+returns-in-Break-refused-line c = record { text = search needs; refused = search needs; least = no-fewer-bars (c .args .input .now); lines = read-as-written (c .args .input .now) }
+
+pub returns : need.returns
+returns c = record { text = search needs; refused = search needs; least = no-fewer-bars (c .args .input .now); lines = read-as-written (c .args .input .now) }
