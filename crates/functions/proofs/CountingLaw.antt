@@ -1,12 +1,11 @@
 -- Counting is lawful.
 use mathlib.Core.Path.{_≡_, ap}
-use mathlib.Core.Bool.{cond}
 use mathlib.Core.List.{List, [], _∷_}
 use mathlib.Core.Logic.{⊎-elim}
 use Prim.Native.Nat.{ℕ, _+_, _-_, _*_, _/_, _≤_, _<_}
 use native.Mathlib.Nat.{add-mul, zero-mul, one-mul}
 use native.Mathlib.Omega.{arith}
-use lib.Dec.{ltb, leb}
+use lib.Dec.{leb}
 use Rattle.std.proofs.shelf.Tests.{cases-lt, cond-both, le-ltb, lt-ltb, leb-true}
 use Rattle.plans.specs.Plans.{total, sum}
 use Rattle.dual_feasible.specs.Laws.{Lawful}

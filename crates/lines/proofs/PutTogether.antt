@@ -1,8 +1,8 @@
 -- A line that has an entry is the entry's word, a blank and the number's digits.
-use mathlib.Core.Bool.{Bool, true, false, cond, not, _&&_, _||_}
+use mathlib.Core.Bool.{Bool, true, false, not, _&&_, _||_}
 use mathlib.Core.List.{List, [], _∷_, _++_}
 use mathlib.Core.Logic.{⊎-elim}
-use mathlib.Core.Path.{_≡_, refl, sym, ap, subst, _∙_}
+use mathlib.Core.Path.{_≡_, refl, sym, ap, _∙_}
 use Prim.Native.Nat.{ℕ, suc, _+_, _-_, _*_, _^_, _≤_, _<_}
 use native.Mathlib.Nat.{mul-comm}
 use native.Mathlib.Numerals.{one-add}
@@ -19,7 +19,6 @@ use Rattle.std.specs.shelf.Text.{sameBytes, allDigits}
 use Rattle.std.proofs.shelf.Decimals.{decimal-value, decimal-digit, decimal-some, first-decimal, length-decimal-le, digits-decimal, value-decimal}
 use Rattle.std.proofs.shelf.Elements.{all-append}
 use Rattle.std.proofs.shelf.Equals.{sameBytes-decides}
-use Rattle.std.proofs.shelf.Lists.{take-append-drop}
 use Rattle.std.proofs.shelf.Numerals.{Numerals, numerals-by-fold, value-short}
 use Rattle.std.proofs.shelf.Tests.{cases-bool, cases-eq, both-ways, and-from, and-parts, or-parts, or-left, or-right, not-from-false, not-true, eqb-true, eqb-false, eq-eqb, ne-eqb, ltb-true, ltb-false, lt-ltb}
 use Rattle.std.proofs.shelf.Ways.{tells}
@@ -38,9 +37,9 @@ spelled-is text [] w e = absurd (no-answer w e)
 spelled-is text (v ∷ ws) w e =
     ⊎-elim
     (λ (p : sameBytes text (spelling v) ≡ true).
-        let f = rw p at e in
-        let same : v ≡ w = cc in
-        sameBytes-decides text (spelling v) .0 p ∙ ap spelling same)
+    let f = rw p at e in
+    let same : v ≡ w = cc in
+    sameBytes-decides text (spelling v) .0 p ∙ ap spelling same)
     (λ (p : sameBytes text (spelling v) ≡ false). spelled-is text ws w (rw p at e))
     (cases-bool (sameBytes text (spelling v)))
 
@@ -58,12 +57,12 @@ digits-are n (d ∷ ds) m e =
     ⊎-elim
     (λ (p : (ltb d 48 || ltb 57 d) ≡ true). absurd (no-answer m (rw p at e)))
     (λ (p : (ltb d 48 || ltb 57 d) ≡ false).
-        let rest = digits-are (n * 10 + (d - 48)) ds m (rw p at e) in
-        let o = or-parts (ltb d 48) (ltb 57 d) p in
-        let low : 48 ≤ d = ltb-false d 48 (o .0) in
-        let high : d ≤ 57 = ltb-false 57 d (o .1) in
-        let same : n * 10 + (d - 48) ≡ 10 * n + (d - 48) = omega (arith, mul-comm n 10) in
-        (and-from (asciiDigit d) (allDigits ds) (grind (arith, tells)) (rest .0), rest .1 ∙ ap (λ k. read-on k ds) same))
+    let rest = digits-are (n * 10 + (d - 48)) ds m (rw p at e) in
+    let o = or-parts (ltb d 48) (ltb 57 d) p in
+    let low : 48 ≤ d = ltb-false d 48 (o .0) in
+    let high : d ≤ 57 = ltb-false 57 d (o .1) in
+    let same : n * 10 + (d - 48) ≡ 10 * n + (d - 48) = omega (arith, mul-comm n 10) in
+    (and-from (asciiDigit d) (allDigits ds) (grind (arith, tells)) (rest .0), rest .1 ∙ ap (λ k. read-on k ds) same))
     (cases-bool (ltb d 48 || ltb 57 d))
 
 -- a number's digits are those that its value is written with
@@ -72,13 +71,13 @@ numeral-is [] n e = absurd (no-answer n e)
 numeral-is (d ∷ ds) n e =
     ⊎-elim
     (λ (p : in-form (d ∷ ds) ≡ true).
-        let f = digits-are 0 (d ∷ ds) n (rw p at e) in
-        let o = and-parts (ltb (length ds) 10) (not (eqb d 48) || eqb (length ds) 0) p in
-        let short : length ds < 10 = ltb-true (length ds) 10 (o .0) in
-        let small : read-on 0 (d ∷ ds) < 10 ^ 10 = value-short own (d ∷ ds) 10 (f .0) (omega arith) in
-        let plain : d ≡ 48 → length ds ≡ 0 = λ z. grind (arith, tells) in
-        let written = decimal-value own (d ∷ ds) (f .0) (omega arith) (λ z. ap suc (plain z)) (omega arith) in
-        (sym written ∙ ap decimal (sym (f .1)), omega arith, omega arith))
+    let f = digits-are 0 (d ∷ ds) n (rw p at e) in
+    let o = and-parts (ltb (length ds) 10) (not (eqb d 48) || eqb (length ds) 0) p in
+    let short : length ds < 10 = ltb-true (length ds) 10 (o .0) in
+    let small : read-on 0 (d ∷ ds) < 10 ^ 10 = value-short own (d ∷ ds) 10 (f .0) (omega arith) in
+    let plain : d ≡ 48 → length ds ≡ 0 = λ z. grind (arith, tells) in
+    let written = decimal-value own (d ∷ ds) (f .0) (omega arith) (λ z. ap suc (plain z)) (omega arith) in
+    (sym written ∙ ap decimal (sym (f .1)), omega arith, omega arith))
     (λ (p : in-form (d ∷ ds) ≡ false). absurd (no-answer n (rw p at e)))
     (cases-bool (in-form (d ∷ ds)))
 
@@ -89,11 +88,11 @@ at-blank (b ∷ line) h =
     ⊎-elim
     (λ (p : eqb b 32 ≡ true). let q : b ≡ 32 = eqb-true b 32 p in rw p (ap (λ c. c ∷ line) q))
     (λ (p : eqb b 32 ≡ false).
-        let k = leading not-blank line in
-        let next : leading not-blank (b ∷ line) ≡ suc k = rw p (one-add k) in
-        let more : suc k + 1 ≡ suc (k + 1) = omega arith in
-        let g = rw (next, more) at h in
-        rw (next, more) (ap (λ rest. b ∷ rest) (at-blank line g)))
+    let k = leading not-blank line in
+    let next : leading not-blank (b ∷ line) ≡ suc k = rw p (one-add k) in
+    let more : suc k + 1 ≡ suc (k + 1) = omega arith in
+    let g = rw (next, more) at h in
+    rw (next, more) (ap (λ rest. b ∷ rest) (at-blank line g)))
     (cases-bool (eqb b 32))
 
 parts : (w : Option Word) (n : Option ℕ) (v : Word) (m : ℕ) → both w n ≡ Some (v, m) → (w ≡ Some v) × (n ≡ Some m)
@@ -125,9 +124,9 @@ plain-form [] some short plain = absurd (let z : ⊥ = omega arith in z)
 plain-form (d ∷ ds) some short plain =
     and-from (ltb (length ds) 10) (not (eqb d 48) || eqb (length ds) 0) (lt-ltb (length ds) 10 (omega arith))
     (⊎-elim
-      (λ (z : d ≡ 48). let one : length ds ≡ 0 = omega (arith, plain z) in or-right (not (eqb d 48)) (eqb (length ds) 0) (eq-eqb (length ds) 0 one))
-      (λ (z : d ≡ 48 → ⊥). or-left (not (eqb d 48)) (eqb (length ds) 0) (not-from-false (eqb d 48) (ne-eqb d 48 z)))
-      (cases-eq d 48))
+    (λ (z : d ≡ 48). let one : length ds ≡ 0 = omega (arith, plain z) in or-right (not (eqb d 48)) (eqb (length ds) 0) (eq-eqb (length ds) 0 one))
+    (λ (z : d ≡ 48 → ⊥). or-left (not (eqb d 48)) (eqb (length ds) 0) (not-from-false (eqb d 48) (ne-eqb d 48 z)))
+    (cases-eq d 48))
 
 -- only 0 is written with a 0 in front
 decimal-plain : (n : ℕ) → n < 2 ^ 64 → getD (decimal n) 0 0 ≡ 48 → length (decimal n) ≡ 1

@@ -2,7 +2,7 @@
 use mathlib.Core.Bool.{Bool, true, false, _||_}
 use mathlib.Core.List.{List, [], _∷_}
 use mathlib.Core.Path.{_≡_, refl}
-use Prim.Native.Nat.{ℕ, _+_, _*_, _/_, _≤_, _<_, max}
+use Prim.Native.Nat.{ℕ, _*_, _≤_, max}
 use native.Mathlib.Nat.{one-le-mul, one-mul}
 use native.Mathlib.Omega.{arith}
 use lib.Dec.{ltb}
@@ -14,14 +14,13 @@ use Rattle.std.proofs.shelf.Bits.{le-div}
 use Rattle.std.proofs.shelf.Tests.{false≢true, ltb-false, or-parts}
 use Rattle.faults.specs.declared.Fault.{Fault}
 use Rattle.faults.specs.declared.Layer.the-variants.{Function}
-use Rattle.faults.specs.declared.Refusal.the-variants.{Capacity, Parameter, ImageCapacity}
+use Rattle.faults.specs.declared.Refusal.the-variants.{Capacity, Parameter}
 use Rattle.faults.specs.Faults.{fault, refuse, outside}
 use Rattle.plans.specs.Plans.{AtLeast}
 use Rattle.dual_feasible.specs.Answers.{capacity-check}
 use Rattle.dual_feasible.specs.Laws.{Lawful, InRange, greatest}
 use Rattle.bounds.specs.Bounds.{bound}
 use Rattle.bounds.proofs.Sound.{bound-sound}
-use Rattle.functions.specs.Made.{identity-made}
 use Rattle.functions.specs.Values.{identity}
 use Rattle.functions.proofs.SuperadditiveValues.{threshold-lawful, rounding-lawful, division-lawful}
 use Rattle.functions.proofs.CountingLaw.{counting-lawful}

@@ -1,12 +1,10 @@
 -- One step of a scan over a text.
-use mathlib.Core.Path.{_≡_, refl, sym, ap, _∙_}
-use mathlib.Core.List.{List, [], _∷_, _++_}
+use mathlib.Core.Path.{_≡_, sym, ap, _∙_}
+use mathlib.Core.List.{List}
 use Prim.Native.Nat.{ℕ, _+_, _-_, _≤_, _<_}
 use native.Mathlib.Omega.{arith}
-use lib.Dec.{eqb}
 use lib.ListN.{length, getD, drop}
 use Rattle.std.specs.Holes.{between}
-use Rattle.std.specs.declared.result.Result.{Result}
 use Rattle.std.specs.declared.result.Result.the-variants.{Ok, Err}
 use Rattle.std.proofs.shelf.Edits.{between-none, between-more, length-between}
 use Rattle.std.proofs.shelf.Lists.{at-drop-more, at-drop-all}
@@ -14,7 +12,7 @@ use Rattle.std.proofs.shelf.Tests.{eq-eqb, ne-eqb}
 use Rattle.faults.specs.declared.Refusal.{Refusal}
 use Rattle.faults.specs.declared.Refusal.the-variants.{Malformed}
 use Rattle.text.specs.Listings.{Said, line-heard}
-use Rattle.text.specs.Texts.{stop, go-on, scanned}
+use Rattle.text.specs.Texts.{stop, scanned}
 
 module _ (text : List ℕ) (start i l : ℕ) (s : Said) where
   -- a byte of the line under way

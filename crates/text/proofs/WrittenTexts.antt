@@ -3,8 +3,7 @@ use mathlib.Core.Bool.{true, false}
 use mathlib.Core.List.{List, [], _∷_, _++_}
 use mathlib.Core.Logic.{⊎-elim}
 use mathlib.Core.Path.{_≡_, refl, sym, ap, subst, _∙_}
-use Prim.Native.Nat.{ℕ, _+_, _^_, _≤_, _<_}
-use native.Mathlib.Omega.{arith}
+use Prim.Native.Nat.{ℕ, _+_}
 use lib.Dec.{eqb, ltb}
 use lib.ListN.{length}
 use Rattle.std.specs.Written.{decimal}
@@ -20,7 +19,7 @@ use Rattle.lines.specs.declared.Word.{Word}
 use Rattle.lines.specs.Lines.{spelling, entry-of}
 use Rattle.lines.proofs.PutTogether.{entry-written, entry-reads, entry-one-line}
 use Rattle.text.specs.Listings.{Said, nothing, entry-heard, line-heard}
-use Rattle.text.specs.Texts.{CuttingList, go-on, scanned, whole, list-of}
+use Rattle.text.specs.Texts.{CuttingList, go-on, scanned, whole}
 use Rattle.text.specs.Written.{line-written, written, Short, heard, ReadAsWritten}
 use Rattle.text.specs.declared.reading.Stop.{Stop}
 use Rattle.text.proofs.Keeping.{no-answer}
@@ -31,12 +30,12 @@ line-is w n rest = simp append-assoc
 
 -- the scan passes the bytes of a line, and hears the line at its end
 scan-over : (l : ℕ) (s : Said) (line bytes rest : List ℕ) → All (λ b. b ≡ 10 → ⊥) bytes
-  → scanned l s line (bytes ++ (10 ∷ rest)) ≡ go-on (line-heard (line ++ bytes) s) l (λ t. scanned (l + 1) t [] rest)
+    → scanned l s line (bytes ++ (10 ∷ rest)) ≡ go-on (line-heard (line ++ bytes) s) l (λ t. scanned (l + 1) t [] rest)
 scan-over l s line [] rest h = ap (λ x. go-on (line-heard x s) l (λ t. scanned (l + 1) t [] rest)) (sym (append-nil line))
 scan-over l s line (b ∷ bytes) rest h =
     rw (ne-eqb b 10 (h .0))
     (scan-over l s (line ++ b ∷ []) bytes rest (h .1)
-      ∙ ap (λ x. go-on (line-heard x s) l (λ t. scanned (l + 1) t [] rest)) (append-assoc line (b ∷ []) bytes))
+    ∙ ap (λ x. go-on (line-heard x s) l (λ t. scanned (l + 1) t [] rest)) (append-assoc line (b ∷ []) bytes))
 
 go-same : (r : Result Said Refusal) (l : ℕ) (f g : Said → Result Said Stop) → ((s : Said) → f s ≡ g s) → go-on r l f ≡ go-on r l g
 go-same (Ok s) l f g same = same s
@@ -78,9 +77,9 @@ scan-lines l s line [] t e =
 scan-lines l s line (b ∷ bytes) t e =
     ⊎-elim
     (λ (p : eqb b 10 ≡ true).
-        let g = go-lines (line-heard line s) l (λ u. scanned (l + 1) u [] bytes) t (rw p at e) in
-        let more = scan-lines (l + 1) (g .0) [] bytes t (g .2) in
-        subst (λ (x : ℕ). Lines (line ++ (x ∷ bytes))) (sym (eqb-true b 10 p)) (entry-lines line bytes (entry-of line) s (g .0) refl (g .1) more))
+    let g = go-lines (line-heard line s) l (λ u. scanned (l + 1) u [] bytes) t (rw p at e) in
+    let more = scan-lines (l + 1) (g .0) [] bytes t (g .2) in
+    subst (λ (x : ℕ). Lines (line ++ (x ∷ bytes))) (sym (eqb-true b 10 p)) (entry-lines line bytes (entry-of line) s (g .0) refl (g .1) more))
     (λ (p : eqb b 10 ≡ false). subst Lines (append-assoc line (b ∷ []) bytes) (scan-lines l s (line ++ b ∷ []) bytes t (rw p at e)))
     (cases-bool (eqb b 10))
 
@@ -93,9 +92,9 @@ read-as-written text =
     record {
       reads = λ lines short is few. rw (le-ltb 65536 (length text) few) (ap (λ x. whole (scanned 1 nothing [] x)) is ∙ ap whole (scan-written 1 nothing lines short));
       nothing-else =
-        λ l e.
-        ⊎-elim
-        (λ (p : ltb 65536 (length text) ≡ true). absurd (no-answer _ l (rw p at e)))
-        (λ (p : ltb 65536 (length text) ≡ false). whole-lines text (scanned 1 nothing [] text) l (λ s q. scan-lines 1 nothing [] text s q) (rw p at e))
-        (cases-bool (ltb 65536 (length text)))
+          λ l e.
+          ⊎-elim
+          (λ (p : ltb 65536 (length text) ≡ true). absurd (no-answer _ l (rw p at e)))
+          (λ (p : ltb 65536 (length text) ≡ false). whole-lines text (scanned 1 nothing [] text) l (λ s q. scan-lines 1 nothing [] text s q) (rw p at e))
+          (cases-bool (ltb 65536 (length text)));
     }

@@ -1,7 +1,7 @@
 // The lines of a text, one after the other.
 ghost use mathlib.Core.Path.{_≡_};
 ghost use Rattle.std.specs.Vec.{made};
-ghost use Rattle.text.specs.Listings.{Said, said, nothing, left, bar-heard, cut-heard, row-heard, word-heard, line-heard};
+ghost use Rattle.text.specs.Listings.{said, nothing, left, bar-heard, cut-heard, row-heard, word-heard, line-heard};
 ghost use Rattle.text.specs.Rows.{row-made, checked};
 use crate::listing::Listing;
 use crate::listing::Row;

@@ -31,7 +31,7 @@ returns-in-Ok c =
       text = c .in-Continue-lower-line .ensures tt ∙ ap lower-line told ∙ ap printed read;
       refused = ap isErr read;
       least = no-fewer-bars (c .args .input .now);
-      lines = read-as-written (c .args .input .now)
+      lines = read-as-written (c .args .input .now);
     }
 
 pub returns-in-Break-refused-line : need.returns-in-Break-refused-line

@@ -1,9 +1,7 @@
 use mathlib.Core.Path.{_≡_, sym, ap, _∙_}
-use Prim.Native.Nat.{ℕ, _+_, max}
-use native.Mathlib.Omega.{arith}
+use Prim.Native.Nat.{_+_, max}
 use lib.ListN.{getD, drop}
 use Rattle.std.specs.Results.{isOk}
-use Rattle.std.specs.declared.result.Result.the-variants.{Ok}
 use Rattle.std.proofs.shelf.Lists.{at-drop-more, at-drop-all}
 use Rattle.bounds.specs.Bounds.{bound}
 use Rattle.functions.specs.Values.{identity}

@@ -1,4 +1,4 @@
-use mathlib.Core.Path.{_≡_, sym, _∙_}
+use mathlib.Core.Path.{sym, _∙_}
 use native.Mathlib.Omega.{arith}
 use Rattle.text.specs.Listings.{said}
 use Rattle.text.proofs.Scanning.{scan-byte, scan-line, scan-refused, scan-ends, scan-breaks}
