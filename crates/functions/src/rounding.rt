@@ -1,7 +1,7 @@
 // Rounding k: sizes rounded down to whole parts of a k + 1st of the bar, but for those that are such parts exactly.
 ghost use mathlib.Core.Path.{_≡_};
 ghost use Prim.Native.Nat.{_*_, _≤_};
-ghost use Rattle.dual_feasible.specs.Laws.{InRange};
+ghost use Rattle.dual_feasible.specs.Laws.{InRange, greatest};
 ghost use Rattle.faults.specs.Faults.{outcome};
 ghost use Rattle.functions.specs.Made.{rounding-made};
 ghost use Rattle.functions.specs.Values.{rounding, rounding-image};
@@ -21,7 +21,7 @@ pub struct Rounding {
     parameter: u64,
     ghost limits: { InRange capacity },
     ghost range: { (1 ≤ parameter) × (parameter ≤ 1000) },
-    ghost product: { capacity * parameter ≤ 1000000000 },
+    ghost product: { capacity * parameter ≤ greatest },
 }
 
 impl Rounding {

@@ -1,4 +1,7 @@
 // Values, refusals and bounds of the functions.
+ghost use mathlib.Core.Path.{_≡_};
+ghost use Rattle.faults.specs.Faults.{fault, outcome};
+ghost use Rattle.std.specs.declared.result.Result.the-variants.{Err};
 use bounds::lower_bound;
 use dual_feasible::DualFeasible;
 use dual_feasible::Superadditive;
@@ -33,14 +36,19 @@ fn four<F: DualFeasible>(f: &F, sizes: [u64; 4]) -> Result<[u64; 4], Fault> {
 }
 
 // That a function was made, without the function.
-fn made<F: Drop>(answer: Result<F, Fault>) -> Result<(), Fault> {
+fn made<F: Drop>(answer: Result<F, Fault>) -> Result<(), Fault>
+    ensures { λ r. ⌜ r ≡ outcome (λ _. tt) answer ⌝ }
+{
     match answer {
         Ok(_) => Ok(()),
         Err(fault) => Err(fault),
     }
 }
 
-fn refused(refusal: Refusal, figure: u64) -> Result<(), Fault> {
+// A refusal of the functions' layer.
+fn refused(refusal: Refusal, figure: u64) -> Result<(), Fault>
+    ensures { λ r. ⌜ r ≡ Err (fault refusal Layer.Function figure) ⌝ }
+{
     Err(Fault {
         refusal,
         layer: Layer::Function,

@@ -1,4 +1,4 @@
--- What the check of a row tells of hearing it.
+-- What the check of a row tells of reading it.
 use mathlib.Core.Path.{_≡_}
 use Prim.Native.Nat.{ℕ}
 use native.Mathlib.Omega.{arith}

@@ -25,7 +25,7 @@ use Rattle.lines.specs.declared.Word.the-variants.{Bar, Cut, Row as RowWord}
 use Rattle.lines.specs.Lines.{entry-of}
 use Rattle.text.specs.Rows.{row-made}
 use Rattle.text.specs.Kept.{Kept}
-use Rattle.text.specs.Listings.{Said, nothing, refuse-if, once-made, word-heard, entry-heard, line-heard}
+use Rattle.text.specs.Listings.{Content, empty, refuse-if, once-made, word-read, entry-read, line-read}
 use Rattle.text.specs.Texts.{CuttingList, go-on, scanned, with-bar, whole, list-of}
 use Rattle.text.specs.declared.listing.Row.{Row}
 use Rattle.text.specs.declared.reading.Stop.{Stop}
@@ -39,8 +39,8 @@ abbrev KeptBy : Option ℕ → List ℕ → List Row → Type 0
 KeptBy None cuts rows = (cuts ≡ []) × (rows ≡ [])
 KeptBy (Some c) cuts rows = Kept c cuts rows
 
-abbrev KeptSaid : Said → Type 0
-KeptSaid s = KeptBy (s .bar) (s .cuts) (s .rows)
+abbrev KeptContent : Content → Type 0
+KeptContent s = KeptBy (s .bar) (s .cuts) (s .rows)
 
 passed : {X : Type 0} (test : Bool) (r : Refusal) (later : Result X Refusal) (x : X) → refuse-if test r later ≡ Ok x → (test ≡ false) × (later ≡ Ok x)
 passed true r later x e = absurd (no-answer r x e)
@@ -50,13 +50,13 @@ was-made : {X Y : Type 0} (m : Result X Fault) (later : Result Y Refusal) (y : Y
 was-made (Ok x) later y e = (refl, e)
 was-made (Err f) later y e = absurd (no-answer (f .refusal) y e)
 
-same-said : (s t : Said) → _≡_ {A = Result Said Refusal} (Ok s) (Ok t) → s ≡ t
-same-said s t e = cc
+same-content : (s t : Content) → _≡_ {A = Result Content Refusal} (Ok s) (Ok t) → s ≡ t
+same-content s t e = cc
 
-word-kept : (b : Option ℕ) (w : Word) (n : ℕ) (s t : Said) → s .bar ≡ b → KeptBy b (s .cuts) (s .rows) → word-heard b w n s ≡ Ok t → KeptSaid t
+word-kept : (b : Option ℕ) (w : Word) (n : ℕ) (s t : Content) → s .bar ≡ b → KeptBy b (s .cuts) (s .rows) → word-read b w n s ≡ Ok t → KeptContent t
 word-kept None Bar n s t is kept e =
     let h = was-made (identity-made n) _ t e in
-    subst KeptSaid (same-said _ t (h .1))
+    subst KeptContent (same-content _ t (h .1))
     (record {
       bar = h .0;
       few = rw (kept .0) (omega arith);
@@ -70,7 +70,7 @@ word-kept (Some c) Cut n s t is kept e =
     let h = passed (outside 1 c n) Size _ t e in
     let k = passed (leb 64 (length (s .cuts))) TooMany _ t (h .1) in
     let o = or-parts (ltb n 1) (ltb c n) (h .0) in
-    subst KeptSaid (same-said _ t (k .1))
+    subst KeptContent (same-content _ t (k .1))
     (rw is
     (record {
       bar = kept .bar;
@@ -82,7 +82,7 @@ word-kept (Some c) (RowWord kind) n s t is kept e =
     let row : Row = record { kind = kind; parameter = n } in
     let h = passed (leb 8 (length (s .rows))) TooMany _ t e in
     let k = was-made (row-made kind c n) _ t (h .1) in
-    subst KeptSaid (same-said _ t (k .1))
+    subst KeptContent (same-content _ t (k .1))
     (rw is
     (record {
       bar = kept .bar;
@@ -91,35 +91,35 @@ word-kept (Some c) (RowWord kind) n s t is kept e =
       made = all-push (λ (r : Row). isOk (row-made (r .kind) c (r .parameter)) ≡ true) (s .rows) row (kept .made) (k .0);
     }))
 
-entry-kept : (e : Option (Word × ℕ)) (s t : Said) → KeptSaid s → entry-heard e s ≡ Ok t → KeptSaid t
+entry-kept : (e : Option (Word × ℕ)) (s t : Content) → KeptContent s → entry-read e s ≡ Ok t → KeptContent t
 entry-kept None s t kept p = absurd (no-answer _ t p)
 entry-kept (Some e) s t kept p = word-kept (s .bar) (e .0) (e .1) s t refl kept p
 
-go-kept : (r : Result Said Refusal) (l : ℕ) (next : Said → Result Said Stop) (t : Said) → ((s : Said) → r ≡ Ok s → KeptSaid s) → ((s : Said) → KeptSaid s → next s ≡ Ok t → KeptSaid t) → go-on r l next ≡ Ok t → KeptSaid t
+go-kept : (r : Result Content Refusal) (l : ℕ) (next : Content → Result Content Stop) (t : Content) → ((s : Content) → r ≡ Ok s → KeptContent s) → ((s : Content) → KeptContent s → next s ≡ Ok t → KeptContent t) → go-on r l next ≡ Ok t → KeptContent t
 go-kept (Ok s) l next t first then e = then s (first s refl) e
 go-kept (Err r) l next t first then e = absurd (no-answer _ t e)
 
-scan-kept : (l : ℕ) (s : Said) (line bytes : List ℕ) (t : Said) → KeptSaid s → scanned l s line bytes ≡ Ok t → KeptSaid t
+scan-kept : (l : ℕ) (s : Content) (line bytes : List ℕ) (t : Content) → KeptContent s → scanned l s line bytes ≡ Ok t → KeptContent t
 scan-kept l s line [] t kept e =
     ⊎-elim
-    (λ (p : eqb (length line) 0 ≡ true). let f = rw p at e in subst KeptSaid (let g : s ≡ t = cc in g) kept)
+    (λ (p : eqb (length line) 0 ≡ true). let f = rw p at e in subst KeptContent (let g : s ≡ t = cc in g) kept)
     (λ (p : eqb (length line) 0 ≡ false). absurd (no-answer _ t (rw p at e)))
     (cases-bool (eqb (length line) 0))
 scan-kept l s line (b ∷ bytes) t kept e =
     ⊎-elim
     (λ (p : eqb b 10 ≡ true).
-    go-kept (line-heard line s) l (λ u. scanned (l + 1) u [] bytes) t (λ u q. entry-kept (entry-of line) s u kept q) (λ u k q. scan-kept (l + 1) u [] bytes t k q) (rw p at e))
+    go-kept (line-read line s) l (λ u. scanned (l + 1) u [] bytes) t (λ u q. entry-kept (entry-of line) s u kept q) (λ u k q. scan-kept (l + 1) u [] bytes t k q) (rw p at e))
     (λ (p : eqb b 10 ≡ false). scan-kept l s (line ++ b ∷ []) bytes t kept (rw p at e))
     (cases-bool (eqb b 10))
 
-bar-kept : (b : Option ℕ) (s : Said) (l : CuttingList) → KeptBy b (s .cuts) (s .rows) → with-bar b s ≡ Ok l → Kept (l .capacity) (l .cuts) (l .rows)
+bar-kept : (b : Option ℕ) (s : Content) (l : CuttingList) → KeptBy b (s .cuts) (s .rows) → with-bar b s ≡ Ok l → Kept (l .capacity) (l .cuts) (l .rows)
 bar-kept None s l kept e = absurd (no-answer _ l e)
 bar-kept (Some c) s l kept e =
     let list : CuttingList = record { capacity = c; cuts = s .cuts; rows = s .rows } in
     let same : list ≡ l = cc in
     subst (λ (m : CuttingList). Kept (m .capacity) (m .cuts) (m .rows)) same kept
 
-whole-kept : (r : Result Said Stop) (l : CuttingList) → ((s : Said) → r ≡ Ok s → KeptSaid s) → whole r ≡ Ok l → Kept (l .capacity) (l .cuts) (l .rows)
+whole-kept : (r : Result Content Stop) (l : CuttingList) → ((s : Content) → r ≡ Ok s → KeptContent s) → whole r ≡ Ok l → Kept (l .capacity) (l .cuts) (l .rows)
 whole-kept (Ok s) l kept e = bar-kept (s .bar) s l (kept s refl) e
 whole-kept (Err f) l kept e = absurd (no-answer _ l e)
 
@@ -128,5 +128,5 @@ pub list-kept : (text : List ℕ) (l : CuttingList) → list-of text ≡ Ok l �
 list-kept text l e =
     ⊎-elim
     (λ (p : ltb 65536 (length text) ≡ true). absurd (no-answer _ l (rw p at e)))
-    (λ (p : ltb 65536 (length text) ≡ false). whole-kept (scanned 1 nothing [] text) l (λ s q. scan-kept 1 nothing [] text s (refl, refl) q) (rw p at e))
+    (λ (p : ltb 65536 (length text) ≡ false). whole-kept (scanned 1 empty [] text) l (λ s q. scan-kept 1 empty [] text s (refl, refl) q) (rw p at e))
     (cases-bool (ltb 65536 (length text)))

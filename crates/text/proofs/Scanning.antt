@@ -11,10 +11,10 @@ use Rattle.std.proofs.shelf.Lists.{at-drop-more, at-drop-all}
 use Rattle.std.proofs.shelf.Tests.{eq-eqb, ne-eqb}
 use Rattle.faults.specs.declared.Refusal.{Refusal}
 use Rattle.faults.specs.declared.Refusal.the-variants.{Malformed}
-use Rattle.text.specs.Listings.{Said, line-heard}
+use Rattle.text.specs.Listings.{Content, line-read}
 use Rattle.text.specs.Texts.{stop, scanned}
 
-module _ (text : List ℕ) (start i l : ℕ) (s : Said) where
+module _ (text : List ℕ) (start i l : ℕ) (s : Content) where
   -- a byte of the line under way
   pub scan-byte : start ≤ i → i < length text → (getD text i 0 ≡ 10 → ⊥)
       → scanned l s (between start i text) (drop i text) ≡ scanned l s (between start (i + 1) text) (drop (i + 1) text)
@@ -22,18 +22,18 @@ module _ (text : List ℕ) (start i l : ℕ) (s : Said) where
       at-drop-more (scanned l s (between start i text)) text i 0 lt
       ∙ rw (ne-eqb (getD text i 0) 10 ne) (ap (λ line. scanned l s line (drop (i + 1) text)) (sym (between-more text start i 0 h lt)))
 
-  -- the end of a line that is heard
-  pub scan-line : (t : Said) → i < length text → getD text i 0 ≡ 10 → line-heard (between start i text) s ≡ Ok t
+  -- the end of a line that is accepted
+  pub scan-line : (t : Content) → i < length text → getD text i 0 ≡ 10 → line-read (between start i text) s ≡ Ok t
       → scanned l s (between start i text) (drop i text) ≡ scanned (l + 1) t (between (i + 1) (i + 1) text) (drop (i + 1) text)
-  scan-line t lt eq heard =
+  scan-line t lt eq lines-read =
       at-drop-more (scanned l s (between start i text)) text i 0 lt
-      ∙ rw (eq-eqb (getD text i 0) 10 eq, heard) (ap (λ line. scanned (l + 1) t line (drop (i + 1) text)) (sym (between-none text (i + 1))))
+      ∙ rw (eq-eqb (getD text i 0) 10 eq, lines-read) (ap (λ line. scanned (l + 1) t line (drop (i + 1) text)) (sym (between-none text (i + 1))))
 
   -- the end of a line that is refused
-  pub scan-refused : (r : Refusal) → i < length text → getD text i 0 ≡ 10 → line-heard (between start i text) s ≡ Err r
+  pub scan-refused : (r : Refusal) → i < length text → getD text i 0 ≡ 10 → line-read (between start i text) s ≡ Err r
       → scanned l s (between start i text) (drop i text) ≡ Err (stop r l)
-  scan-refused r lt eq heard =
-      at-drop-more (scanned l s (between start i text)) text i 0 lt ∙ rw (eq-eqb (getD text i 0) 10 eq, heard)
+  scan-refused r lt eq lines-read =
+      at-drop-more (scanned l s (between start i text)) text i 0 lt ∙ rw (eq-eqb (getD text i 0) 10 eq, lines-read)
 
   -- the end of the text, right after a line
   pub scan-ends : length text ≤ i → i ≤ length text → length text ≤ start → scanned l s (between start i text) (drop i text) ≡ Ok s

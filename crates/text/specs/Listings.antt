@@ -21,17 +21,17 @@ use Rattle.text.specs.Rows.{row-made}
 use Rattle.text.specs.declared.listing.Row.{Row}
 use Rattle.text.specs.declared.listing.Listing.{Listing}
 
--- what the lines so far say: the bar's capacity, once there was a `bar` line, the cuts and the rows, in their order
-pub record Said : Type 0 where
+-- the content of the lines so far: the bar's capacity, once there was a `bar` line, the cuts and the rows, in their order
+pub record Content : Type 0 where
   pub bar : Option ℕ
   pub cuts : List ℕ
   pub rows : List Row
 
-abbrev pub said : Listing → Said
-said l = record { bar = l .bar; cuts = vec-items (l .cuts); rows = vec-items (l .rows) }
+abbrev pub content : Listing → Content
+content l = record { bar = l .bar; cuts = vec-items (l .cuts); rows = vec-items (l .rows) }
 
-abbrev pub nothing : Said
-nothing = record { bar = None; cuts = []; rows = [] }
+abbrev pub empty : Content
+empty = record { bar = None; cuts = []; rows = [] }
 
 -- one check of the text's own
 abbrev pub refuse-if : {X : Type 0} → Bool → Refusal → Result X Refusal → Result X Refusal
@@ -43,39 +43,39 @@ once-made (Ok x) later = later
 once-made (Err f) later = Err (f .refusal)
 
 -- bar n: the capacity, from 1 to 1,000,000,000
-abbrev pub bar-heard : ℕ → Said → Result Said Refusal
-bar-heard n s = once-made (identity-made n) (Ok (record { bar = Some n; cuts = s .cuts; rows = s .rows }))
+abbrev pub bar-read : ℕ → Content → Result Content Refusal
+bar-read n s = once-made (identity-made n) (Ok (record { bar = Some n; cuts = s .cuts; rows = s .rows }))
 
 -- cut n: a size from 1 to the capacity, and at most 64 of them
-abbrev pub cut-heard : ℕ → ℕ → Said → Result Said Refusal
-cut-heard c n s =
+abbrev pub cut-read : ℕ → ℕ → Content → Result Content Refusal
+cut-read c n s =
     refuse-if (outside 1 c n) Size
     (refuse-if (leb 64 (length (s .cuts))) TooMany (Ok (record { bar = s .bar; cuts = s .cuts ++ n ∷ []; rows = s .rows })))
 
 -- a row: at most 8 of them, and its function can be made
-abbrev pub row-heard : ℕ → Row → Said → Result Said Refusal
-row-heard c row s =
+abbrev pub row-read : ℕ → Row → Content → Result Content Refusal
+row-read c row s =
     refuse-if (leb 8 (length (s .rows))) TooMany
     (once-made (row-made (row .kind) c (row .parameter)) (Ok (record { bar = s .bar; cuts = s .cuts; rows = s .rows ++ row ∷ [] })))
 
 -- `bar` comes first and once only
-abbrev pub word-heard : Option ℕ → Word → ℕ → Said → Result Said Refusal
-word-heard None Bar n s = bar-heard n s
-word-heard None Cut n s = Err Malformed
-word-heard None (RowWord kind) n s = Err Malformed
-word-heard (Some c) Bar n s = Err Malformed
-word-heard (Some c) Cut n s = cut-heard c n s
-word-heard (Some c) (RowWord kind) n s = row-heard c (record { kind = kind; parameter = n }) s
+abbrev pub word-read : Option ℕ → Word → ℕ → Content → Result Content Refusal
+word-read None Bar n s = bar-read n s
+word-read None Cut n s = Err Malformed
+word-read None (RowWord kind) n s = Err Malformed
+word-read (Some c) Bar n s = Err Malformed
+word-read (Some c) Cut n s = cut-read c n s
+word-read (Some c) (RowWord kind) n s = row-read c (record { kind = kind; parameter = n }) s
 
-abbrev pub entry-heard : Option (Word × ℕ) → Said → Result Said Refusal
-entry-heard None s = Err Malformed
-entry-heard (Some e) s = word-heard (s .bar) (e .0) (e .1) s
+abbrev pub entry-read : Option (Word × ℕ) → Content → Result Content Refusal
+entry-read None s = Err Malformed
+entry-read (Some e) s = word-read (s .bar) (e .0) (e .1) s
 
 -- one line
-abbrev pub line-heard : List ℕ → Said → Result Said Refusal
-line-heard line s = entry-heard (entry-of line) s
+abbrev pub line-read : List ℕ → Content → Result Content Refusal
+line-read line s = entry-read (entry-of line) s
 
--- what a call that hears something leaves behind
-abbrev pub left : {X E : Type 0} → Result X E → Said → Result Said E
+-- what a call that reads something leaves behind
+abbrev pub left : {X E : Type 0} → Result X E → Content → Result Content E
 left (Ok x) s = Ok s
 left (Err e) s = Err e

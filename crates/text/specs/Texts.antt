@@ -12,24 +12,24 @@ use Rattle.faults.specs.declared.Refusal.{Refusal}
 use Rattle.faults.specs.declared.Refusal.the-variants.{Malformed}
 use Rattle.text.specs.declared.listing.Row.{Row}
 use Rattle.text.specs.declared.reading.Stop.{Stop}
-use Rattle.text.specs.Listings.{Said, nothing, line-heard}
+use Rattle.text.specs.Listings.{Content, empty, line-read}
 
 -- a text is refused at a line
 abbrev pub stop : Refusal → ℕ → Stop
 stop r l = record { refusal = r; line = l }
 
--- what is said after line l, unless that line is refused
-abbrev pub go-on : Result Said Refusal → ℕ → (Said → Result Said Stop) → Result Said Stop
+-- the content after line l, unless that line is refused
+abbrev pub go-on : Result Content Refusal → ℕ → (Content → Result Content Stop) → Result Content Stop
 go-on (Ok s) l next = next s
 go-on (Err r) l next = Err (stop r l)
 
--- what the bytes to come say, where the lines before said s, and line l has begun with the bytes `line`; a line ends with
--- byte 10, and so does the text
-abbrev pub scanned : ℕ → Said → List ℕ → List ℕ → Result Said Stop
+-- the content after the bytes to come, where the lines before have the content s, and line l has begun with the bytes
+-- `line`; a line ends with byte 10, and so does the text
+abbrev pub scanned : ℕ → Content → List ℕ → List ℕ → Result Content Stop
 scanned l s line [] = cond (eqb (length line) 0) (Ok s) (Err (stop Malformed l))
 scanned l s line (b ∷ bytes) =
     cond (eqb b 10)
-    (go-on (line-heard line s) l (λ t. scanned (l + 1) t [] bytes))
+    (go-on (line-read line s) l (λ t. scanned (l + 1) t [] bytes))
     (scanned l s (line ++ b ∷ []) bytes)
 
 -- the capacity of the bars, the sizes to cut and the rows to bound with
@@ -39,23 +39,23 @@ pub record CuttingList : Type 0 where
   pub rows : List Row
 
 -- a text with no `bar` line is refused at line 1
-abbrev pub with-bar : Option ℕ → Said → Result CuttingList Stop
+abbrev pub with-bar : Option ℕ → Content → Result CuttingList Stop
 with-bar None s = Err (stop Malformed 1)
 with-bar (Some c) s = Ok (record { capacity = c; cuts = s .cuts; rows = s .rows })
 
-abbrev pub whole : Result Said Stop → Result CuttingList Stop
+abbrev pub whole : Result Content Stop → Result CuttingList Stop
 whole (Ok s) = with-bar (s .bar) s
 whole (Err e) = Err e
 
--- the cutting list of a text, where s was said before it, or the first refusal in the order of its lines; more than 65,536
+-- the cutting list of a text that comes after the content s, or the first refusal in the order of its lines; more than 65,536
 -- bytes are refused at line 0
-abbrev pub list-from : Said → List ℕ → Result CuttingList Stop
+abbrev pub list-from : Content → List ℕ → Result CuttingList Stop
 list-from s text = cond (ltb 65536 (length text)) (Err (stop Malformed 0)) (whole (scanned 1 s [] text))
 
 abbrev pub list-of : List ℕ → Result CuttingList Stop
-list-of text = list-from nothing text
+list-of text = list-from empty text
 
 -- what a call that reads a text leaves behind, where it answers the capacity
-abbrev pub listed : Result ℕ Stop → Said → Result CuttingList Stop
+abbrev pub listed : Result ℕ Stop → Content → Result CuttingList Stop
 listed (Ok c) s = Ok (record { capacity = c; cuts = s .cuts; rows = s .rows })
 listed (Err e) s = Err e

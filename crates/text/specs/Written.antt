@@ -10,7 +10,7 @@ use Rattle.std.specs.declared.result.Result.the-variants.{Ok}
 use Rattle.std.specs.shelf.Lists.{All, joined}
 use Rattle.lines.specs.declared.Word.{Word}
 use Rattle.lines.specs.Lines.{spelling}
-use Rattle.text.specs.Listings.{Said, nothing, entry-heard}
+use Rattle.text.specs.Listings.{Content, empty, entry-read}
 use Rattle.text.specs.Texts.{CuttingList, go-on, whole, list-of}
 use Rattle.text.specs.declared.reading.Stop.{Stop}
 
@@ -25,12 +25,12 @@ written lines = joined line-written lines
 abbrev pub Short : List (Word × ℕ) → Type 0
 Short lines = All (λ (e : Word × ℕ). e .1 < 10 ^ 10) lines
 
--- what lines say that come after s, the first of them being line l
-abbrev pub heard : ℕ → List (Word × ℕ) → Said → Result Said Stop
-heard l [] s = Ok s
-heard l (e ∷ lines) s = go-on (entry-heard (Some e) s) l (λ t. heard (l + 1) lines t)
+-- the content after some lines, where s comes before them and the first of them is line l
+abbrev pub lines-read : ℕ → List (Word × ℕ) → Content → Result Content Stop
+lines-read l [] s = Ok s
+lines-read l (e ∷ lines) s = go-on (entry-read (Some e) s) l (λ t. lines-read (l + 1) lines t)
 
 -- the reading of a text is that of its lines, and a text that is not refused is nothing but its lines
 pub record ReadAsWritten (text : List ℕ) : Type 0 where
-  pub reads : (lines : List (Word × ℕ)) → Short lines → text ≡ written lines → length text ≤ 65536 → list-of text ≡ whole (heard 1 lines nothing)
+  pub reads : (lines : List (Word × ℕ)) → Short lines → text ≡ written lines → length text ≤ 65536 → list-of text ≡ whole (lines-read 1 lines empty)
   pub nothing-else : (l : CuttingList) → list-of text ≡ Ok l → (lines : List (Word × ℕ)) × Short lines × (text ≡ written lines)

@@ -11,9 +11,9 @@ use lower::lower_figure;
 use std::alloc::AllocError;
 use std::alloc::Global;
 
-mod hearing;
 mod listing;
 mod lower;
+mod parsing;
 mod reading;
 
 // The text to print, and whether the input was refused.
@@ -23,20 +23,22 @@ pub struct Printed {
     pub refused: bool,
 }
 
+// The line `lower N`.
 fn lower_line(heap: Global, lower: u64) -> Result<String, AllocError>
     ensures { λ r. ⌜ made r (λ s. string-bytes s ≡ lower-line lower) ⌝ }
 {
     format!(heap, "lower {lower}\n")
 }
 
+// The line `refused NUMBER line LINE`.
 fn refused_line(heap: Global, number: u64, line: u64) -> Result<String, AllocError>
     ensures { λ r. ⌜ made r (λ s. string-bytes s ≡ refused-line number line) ⌝ }
 {
     format!(heap, "refused {number} line {line}\n")
 }
 
-// The lower figure of a cutting list, `lower N`, or its first refusal, `refused NUMBER line LINE`. No plan of the list has
-// fewer bars than the figure says. Want of memory is the one other answer.
+// The lower figure of a cutting list, `lower N`, or its first refusal, `refused NUMBER line LINE`. Want of memory is the one
+// other answer. No plan of the list has fewer bars than the figure says, and the list is what the lines of the input say.
 pub fn answer(heap: Global, input: &[u8]) -> Result<Printed, AllocError>
     ensures text { λ r. ⌜ made r (λ p. string-bytes (p .text) ≡ printed (list-of (now (input .entry)))) ⌝ }
     ensures refused { λ r. ⌜ made r (λ p. p .refused ≡ isErr (list-of (now (input .entry)))) ⌝ }
@@ -44,7 +46,7 @@ pub fn answer(heap: Global, input: &[u8]) -> Result<Printed, AllocError>
     ensures lines { λ _. ⌜ ReadAsWritten (now (input .entry)) ⌝ }
 {
     let mut listing = Listing::new(heap)?;
-    match listing.read(input) {
+    match listing.read_text(input) {
         Ok(capacity) => {
             let lower = lower_figure(capacity, listing.cuts.as_slice(), listing.rows.as_slice());
             Ok(Printed {

@@ -1,7 +1,7 @@
 // A whole text, line by line.
 ghost use mathlib.Core.List.{[]};
 ghost use mathlib.Core.Path.{_≡_};
-ghost use Rattle.text.specs.Listings.{said, left};
+ghost use Rattle.text.specs.Listings.{content, left};
 ghost use Rattle.text.specs.Texts.{scanned, listed, list-from};
 use crate::listing::Listing;
 use faults::Refusal;
@@ -18,13 +18,13 @@ const MOST_BYTES: usize = 65_536;
 impl Listing {
     // Every line of the text, up to the first that is refused.
     fn scan(&mut self, text: &[u8]) -> Result<(), Stop>
-        ensures { λ r. ⌜ left r (said (now (self .exit))) ≡ scanned 1 (said (now (self .entry))) [] (now (text .entry)) ⌝ }
+        ensures { λ r. ⌜ left r (content (now (self .exit))) ≡ scanned 1 (content (now (self .entry))) [] (now (text .entry)) ⌝ }
     {
         let mut start = 0;
         let mut line = 1;
         for (i, b) in text.iter().enumerate() {
             if *b == b'\n' {
-                if let Err(refusal) = self.take_line(&text[start..i]) {
+                if let Err(refusal) = self.read_line(&text[start..i]) {
                     return Err(Stop { refusal, line });
                 }
                 start = i + 1;
@@ -41,8 +41,8 @@ impl Listing {
     }
 
     // The whole text: the bar's capacity, with the cuts and the rows left in the listing, or the first refusal.
-    pub fn read(&mut self, text: &[u8]) -> Result<u64, Stop>
-        ensures { λ r. ⌜ listed r (said (now (self .exit))) ≡ list-from (said (now (self .entry))) (now (text .entry)) ⌝ }
+    pub fn read_text(&mut self, text: &[u8]) -> Result<u64, Stop>
+        ensures { λ r. ⌜ listed r (content (now (self .exit))) ≡ list-from (content (now (self .entry))) (now (text .entry)) ⌝ }
     {
         if text.len() > MOST_BYTES {
             return Err(Stop {

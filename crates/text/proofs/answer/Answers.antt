@@ -15,8 +15,8 @@ returns-in-Break-listing c = record { text = search needs; refused = search need
 
 pub lower-figure-lower-requires : need.lower-figure-lower-requires
 lower-figure-lower-requires c κs =
-    let list : CuttingList = record { capacity = c .in-Ok .capacity; cuts = vec-items (c .read .last .self .cuts); rows = vec-items (c .read .last .self .rows) } in
-    let read = c .in-Ok .ensures tt ∙ ap (λ said. list-from said (c .args .input .now)) (c .in-Continue-listing .ensures tt) in
+    let list : CuttingList = record { capacity = c .in-Ok .capacity; cuts = vec-items (c .read-text .last .self .cuts); rows = vec-items (c .read-text .last .self .rows) } in
+    let read = c .in-Ok .ensures tt ∙ ap (λ content. list-from content (c .args .input .now)) (c .in-Continue-listing .ensures tt) in
     rw (c .as-slice .ensures .value, c .as-slice-in-Ok .ensures .value) (list-kept (c .args .input .now) list (sym read))
 
 pub returns-in-Break-lower-line : need.returns-in-Break-lower-line
@@ -25,8 +25,8 @@ returns-in-Break-lower-line c = record { text = search needs; refused = search n
 pub returns-in-Ok : need.returns-in-Ok
 returns-in-Ok c =
     let size = c .in-Ok .capacity in
-    let told : c .lower-figure-lower .result ≡ lower-of size (vec-items (c .read .last .self .cuts)) (vec-items (c .read .last .self .rows)) = c .lower-figure-lower .ensures ∙ ap (λ cuts. lower-of size cuts (c .as-slice-in-Ok .result .now)) (c .as-slice .ensures .value) ∙ ap (lower-of size (vec-items (c .read .last .self .cuts))) (c .as-slice-in-Ok .ensures .value) in
-    let read = c .in-Ok .ensures tt ∙ ap (λ said. list-from said (c .args .input .now)) (c .in-Continue-listing .ensures tt) in
+    let told : c .lower-figure-lower .result ≡ lower-of size (vec-items (c .read-text .last .self .cuts)) (vec-items (c .read-text .last .self .rows)) = c .lower-figure-lower .ensures ∙ ap (λ cuts. lower-of size cuts (c .as-slice-in-Ok .result .now)) (c .as-slice .ensures .value) ∙ ap (lower-of size (vec-items (c .read-text .last .self .cuts))) (c .as-slice-in-Ok .ensures .value) in
+    let read = c .in-Ok .ensures tt ∙ ap (λ content. list-from content (c .args .input .now)) (c .in-Continue-listing .ensures tt) in
     record {
       text = c .in-Continue-lower-line .ensures tt ∙ ap lower-line told ∙ ap printed read;
       refused = ap isErr read;

@@ -1,13 +1,13 @@
 use mathlib.Core.Path.{sym, _∙_}
 use native.Mathlib.Omega.{arith}
-use Rattle.text.specs.Listings.{said}
+use Rattle.text.specs.Listings.{content}
 use Rattle.text.proofs.Scanning.{scan-byte, scan-line, scan-refused, scan-ends, scan-breaks}
 use Rattle.text.proofs.listing.Listing.scan.Needs as need
 use Rattle.text.proofs.listing.Listing.scan.Needs.{then-b-eq10·in-rest, else-b-eq10}
 
 pub returns-in-Err : need.returns-in-Err
 returns-in-Err c =
-    sym (sym (c .loop-i .inv .2) ∙ scan-refused (c .args .text .now) (c .loop-i .start) (c .loop-i .i) (c .loop-i .line) (said (c .loop-i .self)) (c .in-Err .refusal) (c .loop-i-test .taken) (c .if-b-eq10 .taken) (sym (c .in-Err .ensures tt)))
+    sym (sym (c .loop-i .inv .2) ∙ scan-refused (c .args .text .now) (c .loop-i .start) (c .loop-i .i) (c .loop-i .line) (content (c .loop-i .self)) (c .in-Err .refusal) (c .loop-i-test .taken) (c .if-b-eq10 .taken) (sym (c .in-Err .ensures tt)))
 
 pub loop-i-again : need.loop-i-again
 loop-i-again c =
@@ -20,21 +20,21 @@ loop-i-again c =
         omega arith,
         omega arith,
         rw (w .line-is, w .start-is, w .self-is)
-            (sym (scan-line text start i line (said (c .loop-i .self)) (said (w .take-line .last .self)) (c .loop-i-test .taken) (w .if-b-eq10 .taken) (sym (w .in-rest .ensures tt)))
+            (sym (scan-line text start i line (content (c .loop-i .self)) (content (w .read-line .last .self)) (c .loop-i-test .taken) (w .if-b-eq10 .taken) (sym (w .in-rest .ensures tt)))
             ∙ c .loop-i .inv .2),
       )
       | else-b-eq10 w ↦ (
         omega arith,
         omega arith,
         rw (w .line-is, w .start-is, w .self-is)
-            (sym (scan-byte text start i line (said (c .loop-i .self)) (c .loop-i .inv .0) (c .loop-i-test .taken) (w .if-b-eq10 .left)) ∙ c .loop-i .inv .2),
+            (sym (scan-byte text start i line (content (c .loop-i .self)) (c .loop-i .inv .0) (c .loop-i-test .taken) (w .if-b-eq10 .left)) ∙ c .loop-i .inv .2),
       )
     ]
 
 pub returns-then-start-text : need.returns-then-start-text
 returns-then-start-text c =
-    sym (sym (c .loop-i .inv .2) ∙ scan-breaks (c .args .text .now) (c .loop-i .start) (c .loop-i .i) (c .loop-i .line) (said (c .loop-i .self)) (c .loop-i-test .left) (omega arith) (c .if-start-text .taken))
+    sym (sym (c .loop-i .inv .2) ∙ scan-breaks (c .args .text .now) (c .loop-i .start) (c .loop-i .i) (c .loop-i .line) (content (c .loop-i .self)) (c .loop-i-test .left) (omega arith) (c .if-start-text .taken))
 
 pub returns : need.returns
 returns c =
-    sym (sym (c .loop-i .inv .2) ∙ scan-ends (c .args .text .now) (c .loop-i .start) (c .loop-i .i) (c .loop-i .line) (said (c .loop-i .self)) (c .loop-i-test .left) (omega arith) (c .if-start-text .left))
+    sym (sym (c .loop-i .inv .2) ∙ scan-ends (c .args .text .now) (c .loop-i .start) (c .loop-i .i) (c .loop-i .line) (content (c .loop-i .self)) (c .loop-i-test .left) (omega arith) (c .if-start-text .left))

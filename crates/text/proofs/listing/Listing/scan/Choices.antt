@@ -3,7 +3,7 @@ use mathlib.Core.Path.{_≡_}
 use Prim.Native.Nat.{_+_, _≤_}
 use lib.ListN.{drop}
 use Rattle.std.specs.Holes.{between}
-use Rattle.text.specs.Listings.{said}
+use Rattle.text.specs.Listings.{content}
 use Rattle.text.specs.Texts.{scanned}
 use Rattle.text.proofs.listing.Listing.scan.Given as given
 
@@ -12,4 +12,4 @@ abbrev pub Inv-loop-i : given.InvT-loop-i
 Inv-loop-i l =
     (l .start ≤ l .i)
     × (l .line ≤ l .i + 1)
-    × (scanned (l .line) (said (l .self)) (between (l .start) (l .i) (l .text)) (drop (l .i) (l .text)) ≡ scanned 1 (said (l .entry .self)) [] (l .text))
+    × (scanned (l .line) (content (l .self)) (between (l .start) (l .i) (l .text)) (drop (l .i) (l .text)) ≡ scanned 1 (content (l .entry .self)) [] (l .text))

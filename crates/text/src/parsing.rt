@@ -1,7 +1,7 @@
 // The lines of a text, one after the other.
 ghost use mathlib.Core.Path.{_≡_};
 ghost use Rattle.std.specs.Vec.{made};
-ghost use Rattle.text.specs.Listings.{said, nothing, left, bar-heard, cut-heard, row-heard, word-heard, line-heard};
+ghost use Rattle.text.specs.Listings.{content, empty, left, bar-read, cut-read, row-read, word-read, line-read};
 ghost use Rattle.text.specs.Rows.{row-made, checked};
 use crate::listing::Listing;
 use crate::listing::Row;
@@ -46,7 +46,7 @@ fn check_row(capacity: u64, row: Row) -> Result<(), Fault>
 impl Listing {
     // Nothing is read yet. All the room that a text can need is reserved here.
     pub fn new(heap: Global) -> Result<Listing, AllocError>
-        ensures { λ r. ⌜ made r (λ l. said l ≡ nothing) ⌝ }
+        ensures { λ r. ⌜ made r (λ l. content l ≡ empty) ⌝ }
     {
         let cuts = Vec::with_capacity(heap, MOST_CUTS)?;
         let rows = Vec::with_capacity(heap, MOST_ROWS)?;
@@ -57,8 +57,9 @@ impl Listing {
         })
     }
 
+    // The line `bar N`.
     fn set_bar(&mut self, number: u64) -> Result<(), Refusal>
-        ensures { λ r. ⌜ left r (said (now (self .exit))) ≡ bar-heard number (said (now (self .entry))) ⌝ }
+        ensures { λ r. ⌜ left r (content (now (self .exit))) ≡ bar-read number (content (now (self .entry))) ⌝ }
     {
         match Identity::new(number) {
             Ok(_) => {
@@ -69,8 +70,9 @@ impl Listing {
         }
     }
 
+    // The line `cut N`, with the bar's capacity.
     fn add_cut(&mut self, capacity: u64, size: u64) -> Result<(), Refusal>
-        ensures { λ r. ⌜ left r (said (now (self .exit))) ≡ cut-heard capacity size (said (now (self .entry))) ⌝ }
+        ensures { λ r. ⌜ left r (content (now (self .exit))) ≡ cut-read capacity size (content (now (self .entry))) ⌝ }
     {
         if size < 1 || size > capacity {
             return Err(Refusal::Size);
@@ -82,8 +84,9 @@ impl Listing {
         Ok(())
     }
 
+    // The line of a row, with the bar's capacity.
     fn add_row(&mut self, capacity: u64, row: Row) -> Result<(), Refusal>
-        ensures { λ r. ⌜ left r (said (now (self .exit))) ≡ row-heard capacity row (said (now (self .entry))) ⌝ }
+        ensures { λ r. ⌜ left r (content (now (self .exit))) ≡ row-read capacity row (content (now (self .entry))) ⌝ }
     {
         if self.rows.len() >= MOST_ROWS {
             return Err(Refusal::TooMany);
@@ -95,8 +98,9 @@ impl Listing {
         Ok(())
     }
 
-    fn hear(&mut self, word: Word, number: u64) -> Result<(), Refusal>
-        ensures { λ r. ⌜ left r (said (now (self .exit))) ≡ word-heard (now (self .entry) .bar) word number (said (now (self .entry))) ⌝ }
+    // A line by its word and its number: `bar` comes first and once only.
+    fn read_entry(&mut self, word: Word, number: u64) -> Result<(), Refusal>
+        ensures { λ r. ⌜ left r (content (now (self .exit))) ≡ word-read (now (self .entry) .bar) word number (content (now (self .entry))) ⌝ }
     {
         match (self.bar, word) {
             (None, Word::Bar) => self.set_bar(number),
@@ -113,12 +117,12 @@ impl Listing {
     }
 
     // One line, without the byte 10 that ends it.
-    pub fn take_line(&mut self, line: &[u8]) -> Result<(), Refusal>
-        ensures { λ r. ⌜ left r (said (now (self .exit))) ≡ line-heard (now (line .entry)) (said (now (self .entry))) ⌝ }
+    pub fn read_line(&mut self, line: &[u8]) -> Result<(), Refusal>
+        ensures { λ r. ⌜ left r (content (now (self .exit))) ≡ line-read (now (line .entry)) (content (now (self .entry))) ⌝ }
     {
         let Some((word, number)) = entry(line) else {
             return Err(Refusal::Malformed);
         };
-        self.hear(word, number)
+        self.read_entry(word, number)
     }
 }
