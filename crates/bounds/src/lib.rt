@@ -17,7 +17,8 @@ fn rounded_up(total: u64, image: u64) -> u64
     requires fits { ⌜ total + image < 2 ^ 64 ⌝ }
     ensures { λ r. ⌜ r ≡ (total + (image - 1)) / image ⌝ }
 {
-    (total + (image - 1)) / image
+    let most_left = image - 1;
+    (total + most_left) / image
 }
 
 // The bound of a dual feasible function: the values of the list added up, divided by the image capacity and rounded up.
