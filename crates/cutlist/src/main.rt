@@ -12,7 +12,7 @@ fn main(rt: LibcRuntime) -> Result<(), AnyError> {
     rt.stdin().take(ENOUGH).read_to_end(&mut input)?;
     let printed = answer(rt.alloc(), input.as_slice())?;
     rt.print(printed.text.as_str())?;
-    if printed.refused {
+    if printed.refused.is_some() {
         return Err("the input is refused".into());
     }
     Ok(())

@@ -1,4 +1,13 @@
 // Texts, and what is printed of them.
+use faults::Fault;
+use faults::FaultDebug;
+use faults::FaultPartialEq;
+use faults::Layer;
+use faults::LayerDebug;
+use faults::LayerPartialEq;
+use faults::Refusal;
+use faults::RefusalDebug;
+use faults::RefusalPartialEq;
 use std::alloc::AllocError;
 use std::alloc::Global;
 use std::test::*;
@@ -72,9 +81,49 @@ fn cases(rt: LibcRuntime) -> Result<(), Fail> {
     for (text, line) in CASES {
         let printed = answer(rt.alloc(), text.as_bytes())?;
         check(printed.text.as_str() == line).note(text)?;
-        check(printed.refused == line.starts_with("refused")).note(text)?;
+        check(printed.refused.is_some() == line.starts_with("refused")).note(text)?;
     }
     Ok(())
+}
+
+// The fault of a text, where it is refused.
+fn fault_of(heap: Global, text: &[u8]) -> Result<Option<Fault>, AllocError> {
+    let printed = answer(heap, text)?;
+    Ok(printed.refused)
+}
+
+fn fault(refusal: Refusal, layer: Layer, figure: u64) -> Option<Fault> {
+    Some(Fault {
+        refusal,
+        layer,
+        figure,
+    })
+}
+
+#[test]
+fn faults_whole(rt: LibcRuntime) -> Result<(), Fail> {
+    let heap = rt.alloc();
+    check_eq(fault_of(heap, b"bar 8\n")?, None)?;
+    check_eq(
+        fault_of(heap, b"bar 0\n")?,
+        fault(Refusal::Capacity, Layer::Function, 0),
+    )?;
+    check_eq(
+        fault_of(heap, b"bar 10\nthreshold 6\n")?,
+        fault(Refusal::Parameter, Layer::Function, 6),
+    )?;
+    check_eq(
+        fault_of(heap, b"bar 1000001\nrounding 1000\n")?,
+        fault(Refusal::ImageCapacity, Layer::Function, 1_000_001),
+    )?;
+    check_eq(
+        fault_of(heap, b"bar 10\ncut 11\n")?,
+        fault(Refusal::Size, Layer::Text, 11),
+    )?;
+    check_eq(
+        fault_of(heap, b"bar 10\ncut 1\ncut\n")?,
+        fault(Refusal::Malformed, Layer::Text, 3),
+    )
 }
 
 // A text that repeats one line after the others.

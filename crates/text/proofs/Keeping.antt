@@ -16,16 +16,16 @@ use Rattle.std.proofs.shelf.Elements.{all-push}
 use Rattle.std.proofs.shelf.Lists.{length-push}
 use Rattle.std.proofs.shelf.Tests.{cases-bool, leb-false, ltb-false, or-parts}
 use Rattle.faults.specs.declared.Fault.{Fault}
-use Rattle.faults.specs.declared.Refusal.{Refusal}
+use Rattle.faults.specs.declared.Layer.the-variants.{Text}
 use Rattle.faults.specs.declared.Refusal.the-variants.{Size, TooMany}
-use Rattle.faults.specs.Faults.{outside}
+use Rattle.faults.specs.Faults.{fault, refuse, outside}
 use Rattle.functions.specs.Made.{identity-made}
 use Rattle.lines.specs.declared.Word.{Word}
 use Rattle.lines.specs.declared.Word.the-variants.{Bar, Cut, Row as RowWord}
 use Rattle.lines.specs.Lines.{entry-of}
-use Rattle.text.specs.Rows.{row-made}
+use Rattle.text.specs.Rows.{row-made, when-made}
 use Rattle.text.specs.Kept.{Kept}
-use Rattle.text.specs.Listings.{Content, empty, refuse-if, once-made, word-read, entry-read, line-read}
+use Rattle.text.specs.Listings.{Content, empty, word-read, entry-read, line-read}
 use Rattle.text.specs.Texts.{CuttingList, go-on, scanned, with-bar, whole, list-of}
 use Rattle.text.specs.declared.listing.Row.{Row}
 use Rattle.text.specs.declared.reading.Stop.{Stop}
@@ -42,19 +42,19 @@ KeptBy (Some c) cuts rows = Kept c cuts rows
 abbrev KeptContent : Content → Type 0
 KeptContent s = KeptBy (s .bar) (s .cuts) (s .rows)
 
-passed : {X : Type 0} (test : Bool) (r : Refusal) (later : Result X Refusal) (x : X) → refuse-if test r later ≡ Ok x → (test ≡ false) × (later ≡ Ok x)
-passed true r later x e = absurd (no-answer r x e)
-passed false r later x e = (refl, e)
+passed : {X : Type 0} (test : Bool) (f : Fault) (later : Result X Fault) (x : X) → refuse test f later ≡ Ok x → (test ≡ false) × (later ≡ Ok x)
+passed true f later x e = absurd (no-answer f x e)
+passed false f later x e = (refl, e)
 
-was-made : {X Y : Type 0} (m : Result X Fault) (later : Result Y Refusal) (y : Y) → once-made m later ≡ Ok y → (isOk m ≡ true) × (later ≡ Ok y)
+was-made : {X Y : Type 0} (m : Result X Fault) (later : Result Y Fault) (y : Y) → when-made m later ≡ Ok y → (isOk m ≡ true) × (later ≡ Ok y)
 was-made (Ok x) later y e = (refl, e)
-was-made (Err f) later y e = absurd (no-answer (f .refusal) y e)
+was-made (Err f) later y e = absurd (no-answer f y e)
 
-same-content : (s t : Content) → _≡_ {A = Result Content Refusal} (Ok s) (Ok t) → s ≡ t
+same-content : (s t : Content) → _≡_ {A = Result Content Fault} (Ok s) (Ok t) → s ≡ t
 same-content s t e = cc
 
-word-kept : (b : Option ℕ) (w : Word) (n : ℕ) (s t : Content) → s .bar ≡ b → KeptBy b (s .cuts) (s .rows) → word-read b w n s ≡ Ok t → KeptContent t
-word-kept None Bar n s t is kept e =
+word-kept : (l : ℕ) (b : Option ℕ) (w : Word) (n : ℕ) (s t : Content) → s .bar ≡ b → KeptBy b (s .cuts) (s .rows) → word-read l b w n s ≡ Ok t → KeptContent t
+word-kept l None Bar n s t is kept e =
     let h = was-made (identity-made n) _ t e in
     subst KeptContent (same-content _ t (h .1))
     (record {
@@ -63,12 +63,12 @@ word-kept None Bar n s t is kept e =
       sized = rw (kept .0) tt;
       made = rw (kept .1) tt;
     })
-word-kept None Cut n s t is kept e = absurd (no-answer _ t e)
-word-kept None (RowWord kind) n s t is kept e = absurd (no-answer _ t e)
-word-kept (Some c) Bar n s t is kept e = absurd (no-answer _ t e)
-word-kept (Some c) Cut n s t is kept e =
-    let h = passed (outside 1 c n) Size _ t e in
-    let k = passed (leb 64 (length (s .cuts))) TooMany _ t (h .1) in
+word-kept l None Cut n s t is kept e = absurd (no-answer _ t e)
+word-kept l None (RowWord kind) n s t is kept e = absurd (no-answer _ t e)
+word-kept l (Some c) Bar n s t is kept e = absurd (no-answer _ t e)
+word-kept l (Some c) Cut n s t is kept e =
+    let h = passed (outside 1 c n) (fault Size Text n) _ t e in
+    let k = passed (leb 64 (length (s .cuts))) (fault TooMany Text 64) _ t (h .1) in
     let o = or-parts (ltb n 1) (ltb c n) (h .0) in
     subst KeptContent (same-content _ t (k .1))
     (rw is
@@ -78,9 +78,9 @@ word-kept (Some c) Cut n s t is kept e =
       sized = all-push (λ m. m ≤ c) (s .cuts) n (kept .sized) (ltb-false c n (o .1));
       made = kept .made;
     }))
-word-kept (Some c) (RowWord kind) n s t is kept e =
+word-kept l (Some c) (RowWord kind) n s t is kept e =
     let row : Row = record { kind = kind; parameter = n } in
-    let h = passed (leb 8 (length (s .rows))) TooMany _ t e in
+    let h = passed (leb 8 (length (s .rows))) (fault TooMany Text 8) _ t e in
     let k = was-made (row-made kind c n) _ t (h .1) in
     subst KeptContent (same-content _ t (k .1))
     (rw is
@@ -91,11 +91,11 @@ word-kept (Some c) (RowWord kind) n s t is kept e =
       made = all-push (λ (r : Row). isOk (row-made (r .kind) c (r .parameter)) ≡ true) (s .rows) row (kept .made) (k .0);
     }))
 
-entry-kept : (e : Option (Word × ℕ)) (s t : Content) → KeptContent s → entry-read e s ≡ Ok t → KeptContent t
-entry-kept None s t kept p = absurd (no-answer _ t p)
-entry-kept (Some e) s t kept p = word-kept (s .bar) (e .0) (e .1) s t refl kept p
+entry-kept : (l : ℕ) (e : Option (Word × ℕ)) (s t : Content) → KeptContent s → entry-read l e s ≡ Ok t → KeptContent t
+entry-kept l None s t kept p = absurd (no-answer _ t p)
+entry-kept l (Some e) s t kept p = word-kept l (s .bar) (e .0) (e .1) s t refl kept p
 
-go-kept : (r : Result Content Refusal) (l : ℕ) (next : Content → Result Content Stop) (t : Content) → ((s : Content) → r ≡ Ok s → KeptContent s) → ((s : Content) → KeptContent s → next s ≡ Ok t → KeptContent t) → go-on r l next ≡ Ok t → KeptContent t
+go-kept : (r : Result Content Fault) (l : ℕ) (next : Content → Result Content Stop) (t : Content) → ((s : Content) → r ≡ Ok s → KeptContent s) → ((s : Content) → KeptContent s → next s ≡ Ok t → KeptContent t) → go-on r l next ≡ Ok t → KeptContent t
 go-kept (Ok s) l next t first then e = then s (first s refl) e
 go-kept (Err r) l next t first then e = absurd (no-answer _ t e)
 
@@ -108,7 +108,7 @@ scan-kept l s line [] t kept e =
 scan-kept l s line (b ∷ bytes) t kept e =
     ⊎-elim
     (λ (p : eqb b 10 ≡ true).
-    go-kept (line-read line s) l (λ u. scanned (l + 1) u [] bytes) t (λ u q. entry-kept (entry-of line) s u kept q) (λ u k q. scan-kept (l + 1) u [] bytes t k q) (rw p at e))
+    go-kept (line-read l line s) l (λ u. scanned (l + 1) u [] bytes) t (λ u q. entry-kept l (entry-of line) s u kept q) (λ u k q. scan-kept (l + 1) u [] bytes t k q) (rw p at e))
     (λ (p : eqb b 10 ≡ false). scan-kept l s (line ++ b ∷ []) bytes t kept (rw p at e))
     (cases-bool (eqb b 10))
 

@@ -1,4 +1,3 @@
-pub mod Checked
 pub mod Scanning
 pub mod LowerFigure
 pub mod Keeping

@@ -14,7 +14,7 @@ use Rattle.std.specs.declared.result.Result.the-variants.{Ok, Err}
 use Rattle.std.specs.shelf.Lists.{All}
 use Rattle.std.proofs.shelf.Lists.{append-assoc, append-nil, nil-from-length}
 use Rattle.std.proofs.shelf.Tests.{cases-bool, eqb-true, ne-eqb, le-ltb}
-use Rattle.faults.specs.declared.Refusal.{Refusal}
+use Rattle.faults.specs.declared.Fault.{Fault}
 use Rattle.lines.specs.declared.Word.{Word}
 use Rattle.lines.specs.Lines.{spelling, entry-of}
 use Rattle.lines.proofs.PutTogether.{entry-written, entry-reads, entry-one-line}
@@ -30,14 +30,14 @@ line-is w n rest = simp append-assoc
 
 -- the scan passes the bytes of a line, and reads the line at its end
 scan-over : (l : ℕ) (s : Content) (line bytes rest : List ℕ) → All (λ b. b ≡ 10 → ⊥) bytes
-    → scanned l s line (bytes ++ (10 ∷ rest)) ≡ go-on (line-read (line ++ bytes) s) l (λ t. scanned (l + 1) t [] rest)
-scan-over l s line [] rest h = ap (λ x. go-on (line-read x s) l (λ t. scanned (l + 1) t [] rest)) (sym (append-nil line))
+    → scanned l s line (bytes ++ (10 ∷ rest)) ≡ go-on (line-read l (line ++ bytes) s) l (λ t. scanned (l + 1) t [] rest)
+scan-over l s line [] rest h = ap (λ x. go-on (line-read l x s) l (λ t. scanned (l + 1) t [] rest)) (sym (append-nil line))
 scan-over l s line (b ∷ bytes) rest h =
     rw (ne-eqb b 10 (h .0))
     (scan-over l s (line ++ b ∷ []) bytes rest (h .1)
-    ∙ ap (λ x. go-on (line-read x s) l (λ t. scanned (l + 1) t [] rest)) (append-assoc line (b ∷ []) bytes))
+    ∙ ap (λ x. go-on (line-read l x s) l (λ t. scanned (l + 1) t [] rest)) (append-assoc line (b ∷ []) bytes))
 
-go-same : (r : Result Content Refusal) (l : ℕ) (f g : Content → Result Content Stop) → ((s : Content) → f s ≡ g s) → go-on r l f ≡ go-on r l g
+go-same : (r : Result Content Fault) (l : ℕ) (f g : Content → Result Content Stop) → ((s : Content) → f s ≡ g s) → go-on r l f ≡ go-on r l g
 go-same (Ok s) l f g same = same s
 go-same (Err r) l f g same = refl
 
@@ -47,8 +47,8 @@ scan-written l s [] h = refl
 scan-written l s (e ∷ lines) h =
     ap (scanned l s []) (line-is (e .0) (e .1) (written lines))
     ∙ scan-over l s [] (spelling (e .0) ++ (32 ∷ decimal (e .1))) (written lines) (entry-one-line (e .0) (e .1) (h .0))
-    ∙ ap (λ x. go-on (entry-read x s) l (λ t. scanned (l + 1) t [] (written lines))) (entry-reads (e .0) (e .1) (h .0))
-    ∙ go-same (entry-read (Some e) s) l (λ t. scanned (l + 1) t [] (written lines)) (λ t. lines-read (l + 1) lines t) (λ t. scan-written (l + 1) t lines (h .1))
+    ∙ ap (λ x. go-on (entry-read l x s) l (λ t. scanned (l + 1) t [] (written lines))) (entry-reads (e .0) (e .1) (h .0))
+    ∙ go-same (entry-read l (Some e) s) l (λ t. scanned (l + 1) t [] (written lines)) (λ t. lines-read (l + 1) lines t) (λ t. scan-written (l + 1) t lines (h .1))
 
 -- the lines of a text that is read to its end
 abbrev Lines : List ℕ → Type 0
@@ -60,11 +60,11 @@ one-more line bytes w n e more =
     let same : line ++ (10 ∷ bytes) ≡ written ((w, n) ∷ more .0) = ap (λ x. x ++ (10 ∷ bytes)) (is .0) ∙ ap (λ x. (spelling w ++ (32 ∷ decimal n)) ++ (10 ∷ x)) (more .2) ∙ sym (line-is w n (written (more .0))) in
     ((w, n) ∷ more .0, (is .1, more .1), same)
 
-entry-lines : (line bytes : List ℕ) (e : Option (Word × ℕ)) (s t : Content) → entry-of line ≡ e → entry-read e s ≡ Ok t → Lines bytes → Lines (line ++ (10 ∷ bytes))
-entry-lines line bytes None s t is h more = absurd (no-answer _ t h)
-entry-lines line bytes (Some e) s t is h more = one-more line bytes (e .0) (e .1) is more
+entry-lines : (l : ℕ) (line bytes : List ℕ) (e : Option (Word × ℕ)) (s t : Content) → entry-of line ≡ e → entry-read l e s ≡ Ok t → Lines bytes → Lines (line ++ (10 ∷ bytes))
+entry-lines l line bytes None s t is h more = absurd (no-answer _ t h)
+entry-lines l line bytes (Some e) s t is h more = one-more line bytes (e .0) (e .1) is more
 
-go-lines : (r : Result Content Refusal) (l : ℕ) (next : Content → Result Content Stop) (t : Content) → go-on r l next ≡ Ok t → (s : Content) × (r ≡ Ok s) × (next s ≡ Ok t)
+go-lines : (r : Result Content Fault) (l : ℕ) (next : Content → Result Content Stop) (t : Content) → go-on r l next ≡ Ok t → (s : Content) × (r ≡ Ok s) × (next s ≡ Ok t)
 go-lines (Ok s) l next t e = (s, refl, e)
 go-lines (Err r) l next t e = absurd (no-answer _ t e)
 
@@ -77,9 +77,9 @@ scan-lines l s line [] t e =
 scan-lines l s line (b ∷ bytes) t e =
     ⊎-elim
     (λ (p : eqb b 10 ≡ true).
-    let g = go-lines (line-read line s) l (λ u. scanned (l + 1) u [] bytes) t (rw p at e) in
+    let g = go-lines (line-read l line s) l (λ u. scanned (l + 1) u [] bytes) t (rw p at e) in
     let more = scan-lines (l + 1) (g .0) [] bytes t (g .2) in
-    subst (λ (x : ℕ). Lines (line ++ (x ∷ bytes))) (sym (eqb-true b 10 p)) (entry-lines line bytes (entry-of line) s (g .0) refl (g .1) more))
+    subst (λ (x : ℕ). Lines (line ++ (x ∷ bytes))) (sym (eqb-true b 10 p)) (entry-lines l line bytes (entry-of line) s (g .0) refl (g .1) more))
     (λ (p : eqb b 10 ≡ false). subst Lines (append-assoc line (b ∷ []) bytes) (scan-lines l s (line ++ b ∷ []) bytes t (rw p at e)))
     (cases-bool (eqb b 10))
 

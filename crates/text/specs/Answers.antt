@@ -3,8 +3,11 @@ use mathlib.Core.List.{List, [], _∷_, _++_}
 use Prim.Native.Nat.{ℕ}
 use lib.Chars.{codes}
 use Rattle.std.specs.Written.{decimal}
+use Rattle.std.specs.declared.option.Option.{Option}
+use Rattle.std.specs.declared.option.Option.the-variants.{Some, None}
 use Rattle.std.specs.declared.result.Result.{Result}
 use Rattle.std.specs.declared.result.Result.the-variants.{Ok, Err}
+use Rattle.faults.specs.declared.Fault.{Fault}
 use Rattle.faults.specs.Faults.{number-of}
 use Rattle.plans.specs.Plans.{AtLeast}
 use Rattle.text.specs.Lower.{lower-of}
@@ -26,7 +29,12 @@ refused-line number line = codes "refused " ++ (decimal number ++ (codes " line 
 -- the one line of a text
 abbrev pub printed : Result CuttingList Stop → List ℕ
 printed (Ok l) = lower-line (lower l)
-printed (Err e) = refused-line (number-of (e .refusal)) (e .line)
+printed (Err e) = refused-line (number-of (e .fault .refusal)) (e .line)
+
+-- the fault of a text that is refused
+abbrev pub fault-of : Result CuttingList Stop → Option Fault
+fault-of (Ok l) = None
+fault-of (Err e) = Some (e .fault)
 
 -- every plan of the list has at least as many bars as its lower figure says
 abbrev pub NoFewerBars : Result CuttingList Stop → Type 0

@@ -8,28 +8,30 @@ use Rattle.std.specs.declared.option.Option.{Option}
 use Rattle.std.specs.declared.option.Option.the-variants.{Some, None}
 use Rattle.std.specs.declared.result.Result.{Result}
 use Rattle.std.specs.declared.result.Result.the-variants.{Ok, Err}
-use Rattle.faults.specs.declared.Refusal.{Refusal}
-use Rattle.faults.specs.declared.Refusal.the-variants.{Malformed}
+use Rattle.faults.specs.declared.Fault.{Fault}
 use Rattle.text.specs.declared.listing.Row.{Row}
 use Rattle.text.specs.declared.reading.Stop.{Stop}
-use Rattle.text.specs.Listings.{Content, empty, line-read}
+use Rattle.text.specs.Listings.{Content, empty, malformed, line-read}
 
 -- a text is refused at a line
-abbrev pub stop : Refusal → ℕ → Stop
-stop r l = record { refusal = r; line = l }
+abbrev pub stop : Fault → ℕ → Stop
+stop f l = record { fault = f; line = l }
+
+abbrev pub malformed-at : ℕ → Stop
+malformed-at l = stop (malformed l) l
 
 -- the content after line l, unless that line is refused
-abbrev pub go-on : Result Content Refusal → ℕ → (Content → Result Content Stop) → Result Content Stop
+abbrev pub go-on : Result Content Fault → ℕ → (Content → Result Content Stop) → Result Content Stop
 go-on (Ok s) l next = next s
-go-on (Err r) l next = Err (stop r l)
+go-on (Err f) l next = Err (stop f l)
 
 -- the content after the bytes to come, where the lines before have the content s, and line l has begun with the bytes
 -- `line`; a line ends with byte 10, and so does the text
 abbrev pub scanned : ℕ → Content → List ℕ → List ℕ → Result Content Stop
-scanned l s line [] = cond (eqb (length line) 0) (Ok s) (Err (stop Malformed l))
+scanned l s line [] = cond (eqb (length line) 0) (Ok s) (Err (malformed-at l))
 scanned l s line (b ∷ bytes) =
     cond (eqb b 10)
-    (go-on (line-read line s) l (λ t. scanned (l + 1) t [] bytes))
+    (go-on (line-read l line s) l (λ t. scanned (l + 1) t [] bytes))
     (scanned l s (line ++ b ∷ []) bytes)
 
 -- the capacity of the bars, the sizes to cut and the rows to bound with
@@ -40,7 +42,7 @@ pub record CuttingList : Type 0 where
 
 -- a text with no `bar` line is refused at line 1
 abbrev pub with-bar : Option ℕ → Content → Result CuttingList Stop
-with-bar None s = Err (stop Malformed 1)
+with-bar None s = Err (malformed-at 1)
 with-bar (Some c) s = Ok (record { capacity = c; cuts = s .cuts; rows = s .rows })
 
 abbrev pub whole : Result Content Stop → Result CuttingList Stop
@@ -50,7 +52,7 @@ whole (Err e) = Err e
 -- the cutting list of a text that comes after the content s, or the first refusal in the order of its lines; more than 65,536
 -- bytes are refused at line 0
 abbrev pub list-from : Content → List ℕ → Result CuttingList Stop
-list-from s text = cond (ltb 65536 (length text)) (Err (stop Malformed 0)) (whole (scanned 1 s [] text))
+list-from s text = cond (ltb 65536 (length text)) (Err (malformed-at 0)) (whole (scanned 1 s [] text))
 
 abbrev pub list-of : List ℕ → Result CuttingList Stop
 list-of text = list-from empty text

@@ -28,7 +28,7 @@ Short lines = All (λ (e : Word × ℕ). e .1 < 10 ^ 10) lines
 -- the content after some lines, where s comes before them and the first of them is line l
 abbrev pub lines-read : ℕ → List (Word × ℕ) → Content → Result Content Stop
 lines-read l [] s = Ok s
-lines-read l (e ∷ lines) s = go-on (entry-read (Some e) s) l (λ t. lines-read (l + 1) lines t)
+lines-read l (e ∷ lines) s = go-on (entry-read l (Some e) s) l (λ t. lines-read (l + 1) lines t)
 
 -- the reading of a text is that of its lines, and a text that is not refused is nothing but its lines
 pub record ReadAsWritten (text : List ℕ) : Type 0 where

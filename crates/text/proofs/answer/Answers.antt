@@ -1,8 +1,7 @@
 use borrow.Author.Needs.{needs}
 use mathlib.Core.Path.{_≡_, sym, ap, _∙_}
 use Rattle.std.specs.Of.Vec.{vec-items}
-use Rattle.std.specs.Results.{isErr}
-use Rattle.text.specs.Answers.{printed, lower-line}
+use Rattle.text.specs.Answers.{printed, lower-line, fault-of}
 use Rattle.text.specs.Lower.{lower-of}
 use Rattle.text.specs.Texts.{CuttingList, list-from}
 use Rattle.text.proofs.Guarantee.{no-fewer-bars}
@@ -29,7 +28,7 @@ returns-in-Ok c =
     let read = c .in-Ok .ensures tt ∙ ap (λ content. list-from content (c .args .input .now)) (c .in-Continue-listing .ensures tt) in
     record {
       text = c .in-Continue-lower-line .ensures tt ∙ ap lower-line told ∙ ap printed read;
-      refused = ap isErr read;
+      refused = ap fault-of read;
       least = no-fewer-bars (c .args .input .now);
       lines = read-as-written (c .args .input .now);
     }

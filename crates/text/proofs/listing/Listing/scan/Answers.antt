@@ -1,5 +1,6 @@
-use mathlib.Core.Path.{sym, _∙_}
+use mathlib.Core.Path.{sym, ap, _∙_}
 use native.Mathlib.Omega.{arith}
+use Rattle.std.specs.declared.result.Result.the-variants.{Err}
 use Rattle.text.specs.Listings.{content}
 use Rattle.text.proofs.Scanning.{scan-byte, scan-line, scan-refused, scan-ends, scan-breaks}
 use Rattle.text.proofs.listing.Listing.scan.Needs as need
@@ -7,7 +8,7 @@ use Rattle.text.proofs.listing.Listing.scan.Needs.{then-b-eq10·in-rest, else-
 
 pub returns-in-Err : need.returns-in-Err
 returns-in-Err c =
-    sym (sym (c .loop-i .inv .2) ∙ scan-refused (c .args .text .now) (c .loop-i .start) (c .loop-i .i) (c .loop-i .line) (content (c .loop-i .self)) (c .in-Err .refusal) (c .loop-i-test .taken) (c .if-b-eq10 .taken) (sym (c .in-Err .ensures tt)))
+    sym (sym (c .loop-i .inv .2) ∙ scan-refused (c .args .text .now) (c .loop-i .start) (c .loop-i .i) (c .loop-i .line) (content (c .loop-i .self)) (c .in-Err .fault) (c .loop-i-test .taken) (c .if-b-eq10 .taken) (sym (c .in-Err .ensures tt)))
 
 pub loop-i-again : need.loop-i-again
 loop-i-again c =
@@ -33,7 +34,8 @@ loop-i-again c =
 
 pub returns-then-start-text : need.returns-then-start-text
 returns-then-start-text c =
-    sym (sym (c .loop-i .inv .2) ∙ scan-breaks (c .args .text .now) (c .loop-i .start) (c .loop-i .i) (c .loop-i .line) (content (c .loop-i .self)) (c .loop-i-test .left) (omega arith) (c .if-start-text .taken))
+    ap Err (c .malformed-at .ensures)
+    ∙ sym (sym (c .loop-i .inv .2) ∙ scan-breaks (c .args .text .now) (c .loop-i .start) (c .loop-i .i) (c .loop-i .line) (content (c .loop-i .self)) (c .loop-i-test .left) (omega arith) (c .if-start-text .taken))
 
 pub returns : need.returns
 returns c =
