@@ -1,4 +1,6 @@
 // cutlist: reads a cutting list from standard input and prints the least number of bars that is known to be needed.
+#![tactic(auto)]
+
 use anyhow::anyhow;
 use std::io::Read;
 use text::answer;

@@ -1,4 +1,6 @@
 // The two interfaces that every function of sizes meets.
+#![tactic(auto)]
+
 ghost use Rattle.std.specs.Prelude.{◌≡◌, ℕ, ◌≤◌};
 ghost use Rattle.dual_feasible.specs.Laws.{Limits, Lawful, Adds};
 ghost use Rattle.dual_feasible.specs.Answers.{valued};

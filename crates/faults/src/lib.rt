@@ -1,4 +1,6 @@
 // Faults: why a call declines, which layer was called, and one figure.
+#![tactic(auto)]
+
 ghost use Rattle.std.specs.Prelude.{◌≡◌};
 ghost use Rattle.faults.specs.Faults.{number_of};
 

@@ -1,4 +1,6 @@
 // The figures that were worked out by hand, proved of the definitions that the contracts use.
+#![tactic(auto)]
+
 ghost use Rattle.std.specs.Prelude.{◌≡◌, length};
 ghost use Rattle.figures.specs.Figures.{figures, Agrees};
 ghost use Rattle.figures.specs.LayerFigures.{layer_figures};

@@ -1,4 +1,6 @@
 // A function of one's own: what a user of the library writes to meet both interfaces from another crate.
+#![tactic(auto)]
+
 ghost use Rattle.std.specs.Prelude.{◌≡◌, Ok};
 ghost use Rattle.dual_feasible.specs.Answers.{capacity_check};
 ghost use Rattle.dual_feasible.specs.Laws.{InRange};

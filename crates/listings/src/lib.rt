@@ -1,4 +1,6 @@
 // A cutting list as text: what is read of it.
+#![tactic(auto)]
+
 pub mod listing;
 pub mod parsing;
 pub mod reading;

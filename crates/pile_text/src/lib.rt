@@ -1,4 +1,6 @@
 // A cutting list as text: what is printed of it.
+#![tactic(auto)]
+
 ghost use Rattle.std.specs.Prelude.{◌≡◌, IfOk, string_bytes};
 ghost use Rattle.pile_text.specs.Answers.{lower_line_text, refused_line_text, printed, fault_of, NoFewerBars};
 ghost use Rattle.listings.specs.Texts.{list_of};

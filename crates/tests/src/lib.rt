@@ -1,4 +1,6 @@
 // Examples, run through the public calls.
+#![tactic(auto)]
+
 #[cfg(test)]
 mod bounders_tests;
 #[cfg(test)]

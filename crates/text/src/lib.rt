@@ -1,4 +1,6 @@
 // A cutting list as text: what is read of it, and what is printed.
+#![tactic(auto)]
+
 ghost use Rattle.std.specs.Prelude.{◌≡◌, IfOk, string_bytes};
 ghost use Rattle.text.specs.Answers.{lower_line_text, refused_line_text, printed, fault_of, NoFewerBars};
 ghost use Rattle.text.specs.Texts.{list_of};

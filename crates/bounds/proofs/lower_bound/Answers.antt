@@ -24,9 +24,9 @@ returns-then-list-gt-MOST g c =
       least = least-of g c.args.f.now c.args.list.now;
     }
 
-pub returns-in-default : goal.returns-in-default
-returns-in-default g c =
-    let above = refusal_told (g.F.DualFeasible.capacity c.args.f.now) (g.F.DualFeasible.map c.args.f.now) (get_or c.args.list.now c.loop-i.i 0) c.in-default.field-0 c.in-default.ensures in
+pub returns-in_default : goal.returns-in_default
+returns-in_default g c =
+    let above = refusal_told (g.F.DualFeasible.capacity c.args.f.now) (g.F.DualFeasible.map c.args.f.now) (get_or c.args.list.now c.loop-i.i 0) c.in_default.field-0 c.in_default.ensures in
     let later : Result ℕ Fault = Ok (bound (g.F.DualFeasible.image c.args.f.now) (g.F.DualFeasible.map c.args.f.now) c.args.list.now) in
     record {
       answer =
@@ -50,8 +50,8 @@ small g c =
     let most : g.F.DualFeasible.map f (get_or c.args.list.now c.loop-i.i 0) ≤ g.F.DualFeasible.image f = value_below (g.F.DualFeasible.capacity f) (g.F.DualFeasible.image f) (g.F.DualFeasible.map f) (g.met.F.DualFeasible.lawful f) (get_or c.args.list.now c.loop-i.i 0) t.0 in
     omega (arith, (g.met.F.DualFeasible.limits f).1.1)
 
-pub overflow-add-total : goal.overflow-add-total
-overflow-add-total g c = omega (arith, small g c)
+pub overflow_add-total : goal.overflow_add-total
+overflow_add-total g c = omega (arith, small g c)
 
 pub loop-i-preserved : goal.loop-i-preserved
 loop-i-preserved g c =
@@ -64,8 +64,8 @@ loop-i-preserved g c =
       λ later. c.loop-i.invariant.2 later ∙ entry_passes (g.F.DualFeasible.capacity c.args.f.now) list i later c.loop-i-test.true t.0,
     )
 
-pub rounded-up-requires : goal.rounded-up-requires
-rounded-up-requires g c =
+pub rounded_up-requires : goal.rounded_up-requires
+rounded_up-requires g c =
     let d = ap (λ (p : ℕ × ℕ). p.1) c.capacities-image.ensures in
     let limits = (g.met.F.DualFeasible.limits c.args.f.now).1 in
     record { positive = omega arith; fits = omega arith }
@@ -77,7 +77,7 @@ returns g c =
     let d : c.capacities-image.result.1 ≡ g.F.DualFeasible.image c.args.f.now = ap (λ (p : ℕ × ℕ). p.1) c.capacities-image.ensures in
     let e : c.loop-i.total ≡ total v list = omega (arith, at_drop_all (total v) list c.loop-i.i c.loop-i-test.false) in
     let later : Result ℕ Fault = Ok (bound (g.F.DualFeasible.image c.args.f.now) v list) in
-    let b : c.rounded-up.result ≡ bound (g.F.DualFeasible.image c.args.f.now) v list = c.rounded-up.ensures ∙ rw (d, e) in
+    let b : c.rounded_up.result ≡ bound (g.F.DualFeasible.image c.args.f.now) v list = c.rounded_up.ensures ∙ rw (d, e) in
     record {
       answer =
           rw (le-ltb 64 (length list) c.if-list-gt-MOST.false, b)

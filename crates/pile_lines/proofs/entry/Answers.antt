@@ -5,18 +5,18 @@ use Rattle.pile_lines.specs.Lines.{not_blank, numeral}
 use Rattle.pile_lines.proofs.TakenApart.{entry_is, entry_from}
 use Rattle.pile_lines.proofs.entry.Goals as goal
 
-pub split-at-requires : goal.split-at-requires
-split-at-requires c = omega (arith, prefix_len-le-length not_blank c.args.line.now)
+pub split_at-requires : goal.split_at-requires
+split_at-requires c = omega (arith, prefix_len-le-length not_blank c.args.line.now)
 
-pub returns-in-default-back : goal.returns-in-default-back
-returns-in-default-back c =
-    let none : drop 1 c.split-at.result.1.now ≡ [] = drop_all 1 c.split-at.result.1.now (search rules) in
-    entry_is c.args.line.now c.before-blank.result c.split-at.result.0.now c.split-at.result.1.now c.before-blank.ensures c.split-at.ensures.front c.split-at.ensures.back (Some c.in-Some.word) None c.in-Some.ensures (sym (ap numeral none))
+pub returns-in_default-back : goal.returns-in_default-back
+returns-in_default-back c =
+    let none : drop 1 c.split_at.result.1.now ≡ [] = drop_all 1 c.split_at.result.1.now (search rules) in
+    entry_is c.args.line.now c.before_blank.result c.split_at.result.0.now c.split_at.result.1.now c.before_blank.ensures c.split_at.ensures.front c.split_at.ensures.back (Some c.in-Some.word) None c.in-Some.ensures (sym (ap numeral none))
 
-pub returns-in-default-number : goal.returns-in-default-number
-returns-in-default-number c =
-    entry_from c.args.line.now c.before-blank.result c.split-at.result.0.now c.split-at.result.1.now c.before-blank.ensures c.split-at.ensures.front c.split-at.ensures.back (Some c.in-Some.word) None c.in-Some.ensures c.in-default-number.ensures
+pub returns-in_default-number : goal.returns-in_default-number
+returns-in_default-number c =
+    entry_from c.args.line.now c.before_blank.result c.split_at.result.0.now c.split_at.result.1.now c.before_blank.ensures c.split_at.ensures.front c.split_at.ensures.back (Some c.in-Some.word) None c.in-Some.ensures c.in_default-number.ensures
 
 pub returns : goal.returns
 returns c =
-    entry_from c.args.line.now c.before-blank.result c.split-at.result.0.now c.split-at.result.1.now c.before-blank.ensures c.split-at.ensures.front c.split-at.ensures.back (Some c.in-Some.word) (Some c.in-Some-number.number) c.in-Some.ensures c.in-Some-number.ensures
+    entry_from c.args.line.now c.before_blank.result c.split_at.result.0.now c.split_at.result.1.now c.before_blank.ensures c.split_at.ensures.front c.split_at.ensures.back (Some c.in-Some.word) (Some c.in-Some-number.number) c.in-Some.ensures c.in-Some-number.ensures

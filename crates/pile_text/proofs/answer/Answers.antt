@@ -24,34 +24,34 @@ module _ (text : List ℕ) (s : Content) (start : s ≡ empty) (p : Pile) (cuts 
       let kept = list_kept text list (sym text_read) in
       asked_number p.capacity (λ sizes. lower_of p.capacity sizes (pile_rows p)) cuts kept.few kept.sized
 
-pub returns-in-err-listing : goal.returns-in-err-listing
-returns-in-err-listing c = record { text = search rules; refused = search rules; least = no_fewer_bars c.args.input.now; lines = read_as_written c.args.input.now }
+pub returns-in_err-listing : goal.returns-in_err-listing
+returns-in_err-listing c = record { text = search rules; refused = search rules; least = no_fewer_bars c.args.input.now; lines = read_as_written c.args.input.now }
 
-pub returns-in-err-lower-line : goal.returns-in-err-lower-line
-returns-in-err-lower-line c = record { text = search rules; refused = search rules; least = no_fewer_bars c.args.input.now; lines = read_as_written c.args.input.now }
+pub returns-in_err-lower_line : goal.returns-in_err-lower_line
+returns-in_err-lower_line c = record { text = search rules; refused = search rules; least = no_fewer_bars c.args.input.now; lines = read_as_written c.args.input.now }
 
 pub unwrap-lower-requires : goal.unwrap-lower-requires
 unwrap-lower-requires c =
     let p = c.in-Ok.pile in
-    let told = figure_told c.args.input.now _ c.in-ok-listing.ensures p (vec_items c.read-text.new.self.cuts) c.in-Ok.ensures in
-    ap is_ok (c.lower-figure.ensures ∙ ap (asked_of p.capacity (λ list. lower_of p.capacity list (pile_rows p))) c.as-slice.ensures.value ∙ told)
+    let told = figure_told c.args.input.now _ c.in_ok-listing.ensures p (vec_items c.read_text.new.self.cuts) c.in-Ok.ensures in
+    ap is_ok (c.lower_figure.ensures ∙ ap (asked_of p.capacity (λ list. lower_of p.capacity list (pile_rows p))) c.as_slice.ensures.value ∙ told)
 
 pub returns-in-Ok : goal.returns-in-Ok
 returns-in-Ok c =
     let p = c.in-Ok.pile in
-    let cuts = vec_items c.read-text.new.self.cuts in
-    let read = text_read c.args.input.now _ c.in-ok-listing.ensures p cuts c.in-Ok.ensures in
-    let told = c.lower-figure.ensures ∙ ap (asked_of p.capacity (λ list. lower_of p.capacity list (pile_rows p))) c.as-slice.ensures.value ∙ figure_told c.args.input.now _ c.in-ok-listing.ensures p cuts c.in-Ok.ensures in
+    let cuts = vec_items c.read_text.new.self.cuts in
+    let read = text_read c.args.input.now _ c.in_ok-listing.ensures p cuts c.in-Ok.ensures in
+    let told = c.lower_figure.ensures ∙ ap (asked_of p.capacity (λ list. lower_of p.capacity list (pile_rows p))) c.as_slice.ensures.value ∙ figure_told c.args.input.now _ c.in_ok-listing.ensures p cuts c.in-Ok.ensures in
     let same : c.unwrap-lower.result ≡ lower_of p.capacity cuts (pile_rows p) = cc in
     record {
-      text = c.in-ok-lower-line.ensures ∙ ap lower_line_text same ∙ ap printed read;
+      text = c.in_ok-lower_line.ensures ∙ ap lower_line_text same ∙ ap printed read;
       refused = ap fault_of read;
       least = no_fewer_bars c.args.input.now;
       lines = read_as_written c.args.input.now;
     }
 
-pub returns-in-err-refused-line : goal.returns-in-err-refused-line
-returns-in-err-refused-line c = record { text = search rules; refused = search rules; least = no_fewer_bars c.args.input.now; lines = read_as_written c.args.input.now }
+pub returns-in_err-refused_line : goal.returns-in_err-refused_line
+returns-in_err-refused_line c = record { text = search rules; refused = search rules; least = no_fewer_bars c.args.input.now; lines = read_as_written c.args.input.now }
 
 pub returns : goal.returns
 returns c = record { text = search rules; refused = search rules; least = no_fewer_bars c.args.input.now; lines = read_as_written c.args.input.now }

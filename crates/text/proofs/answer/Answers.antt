@@ -7,32 +7,32 @@ use Rattle.text.proofs.Keeping.{list_kept}
 use Rattle.text.proofs.WrittenTexts.{read_as_written}
 use Rattle.text.proofs.answer.Goals as goal
 
-pub returns-in-err-listing : goal.returns-in-err-listing
-returns-in-err-listing c = record { text = search rules; refused = search rules; least = no_fewer_bars c.args.input.now; lines = read_as_written c.args.input.now }
+pub returns-in_err-listing : goal.returns-in_err-listing
+returns-in_err-listing c = record { text = search rules; refused = search rules; least = no_fewer_bars c.args.input.now; lines = read_as_written c.args.input.now }
 
-pub lower-figure-lower-requires : goal.lower-figure-lower-requires
-lower-figure-lower-requires c =
-    let list : CuttingList = record { capacity = c.in-Ok.capacity; cuts = vec_items c.read-text.new.self.cuts; rows = vec_items c.read-text.new.self.rows } in
-    let read = c.in-Ok.ensures ∙ ap (λ content. list_from content c.args.input.now) c.in-ok-listing.ensures in
-    rw (c.as-slice.ensures.value, c.as-slice-in-Ok.ensures.value) (list_kept c.args.input.now list (sym read))
+pub lower_figure-lower-requires : goal.lower_figure-lower-requires
+lower_figure-lower-requires c =
+    let list : CuttingList = record { capacity = c.in-Ok.capacity; cuts = vec_items c.read_text.new.self.cuts; rows = vec_items c.read_text.new.self.rows } in
+    let read = c.in-Ok.ensures ∙ ap (λ content. list_from content c.args.input.now) c.in_ok-listing.ensures in
+    rw (c.as_slice.ensures.value, c.as_slice-in-Ok.ensures.value) (list_kept c.args.input.now list (sym read))
 
-pub returns-in-err-lower-line : goal.returns-in-err-lower-line
-returns-in-err-lower-line c = record { text = search rules; refused = search rules; least = no_fewer_bars c.args.input.now; lines = read_as_written c.args.input.now }
+pub returns-in_err-lower_line : goal.returns-in_err-lower_line
+returns-in_err-lower_line c = record { text = search rules; refused = search rules; least = no_fewer_bars c.args.input.now; lines = read_as_written c.args.input.now }
 
 pub returns-in-Ok : goal.returns-in-Ok
 returns-in-Ok c =
     let size = c.in-Ok.capacity in
-    let told : c.lower-figure-lower.result ≡ lower_of size (vec_items c.read-text.new.self.cuts) (vec_items c.read-text.new.self.rows) = c.lower-figure-lower.ensures ∙ ap (λ cuts. lower_of size cuts c.as-slice-in-Ok.result.now) c.as-slice.ensures.value ∙ ap (lower_of size (vec_items c.read-text.new.self.cuts)) c.as-slice-in-Ok.ensures.value in
-    let read = c.in-Ok.ensures ∙ ap (λ content. list_from content c.args.input.now) c.in-ok-listing.ensures in
+    let told : c.lower_figure-lower.result ≡ lower_of size (vec_items c.read_text.new.self.cuts) (vec_items c.read_text.new.self.rows) = c.lower_figure-lower.ensures ∙ ap (λ cuts. lower_of size cuts c.as_slice-in-Ok.result.now) c.as_slice.ensures.value ∙ ap (lower_of size (vec_items c.read_text.new.self.cuts)) c.as_slice-in-Ok.ensures.value in
+    let read = c.in-Ok.ensures ∙ ap (λ content. list_from content c.args.input.now) c.in_ok-listing.ensures in
     record {
-      text = c.in-ok-lower-line.ensures ∙ ap lower_line_text told ∙ ap printed read;
+      text = c.in_ok-lower_line.ensures ∙ ap lower_line_text told ∙ ap printed read;
       refused = ap fault_of read;
       least = no_fewer_bars c.args.input.now;
       lines = read_as_written c.args.input.now;
     }
 
-pub returns-in-err-refused-line : goal.returns-in-err-refused-line
-returns-in-err-refused-line c = record { text = search rules; refused = search rules; least = no_fewer_bars c.args.input.now; lines = read_as_written c.args.input.now }
+pub returns-in_err-refused_line : goal.returns-in_err-refused_line
+returns-in_err-refused_line c = record { text = search rules; refused = search rules; least = no_fewer_bars c.args.input.now; lines = read_as_written c.args.input.now }
 
 pub returns : goal.returns
 returns c = record { text = search rules; refused = search rules; least = no_fewer_bars c.args.input.now; lines = read_as_written c.args.input.now }

@@ -12,7 +12,7 @@ returns g c =
     let inner = c.args.inner.now in
     let v = g.I.DualFeasible.map inner in
     let w = g.O.DualFeasible.map outer in
-    let told = value_told (g.I.DualFeasible.capacity inner) v c.args.size c.in-ok-value.value c.in-ok-value.ensures in
+    let told = value_told (g.I.DualFeasible.capacity inner) v c.args.size c.in_ok-value.value c.in_ok-value.ensures in
     let same : g.O.DualFeasible.capacity outer ≡ g.I.DualFeasible.image inner = ap (λ (p : ℕ × ℕ). p.0) (sym c.capacities-capacity.ensures) ∙ c.if-capacity-image.false ∙ ap (λ (p : ℕ × ℕ). p.1) c.capacities-image.ensures in
     let below : v c.args.size ≤ g.O.DualFeasible.capacity outer = omega (arith, value_below (g.I.DualFeasible.capacity inner) (g.I.DualFeasible.image inner) v (g.met.I.DualFeasible.lawful inner) c.args.size told.0) in
     rw (le-ltb (g.I.DualFeasible.capacity inner) c.args.size told.0, eq-eqb (g.O.DualFeasible.capacity outer) (g.I.DualFeasible.image inner) same)

@@ -27,8 +27,8 @@ second : (c : goal.After-climb-2) → c.climb-2.result ≤ c.args.below
 second c =
     below_image c.args.capacity c.args.steps.now c.args.below (c.args.capacity - c.args.size) c.climb-2.result c.requires.limits c.requires.standing c.requires.image (second-half c) c.climb-2.ensures
 
-pub overflow-mul-result : goal.overflow-mul-result
-overflow-mul-result c = omega (arith, first c, c.requires.twice)
+pub overflow_mul-result : goal.overflow_mul-result
+overflow_mul-result c = omega (arith, first c, c.requires.twice)
 
 pub returns-then-size-capacity : goal.returns-then-size-capacity
 returns-then-size-capacity c =
@@ -38,11 +38,11 @@ returns-then-size-capacity c =
       within = omega (arith, first c);
     }
 
-pub overflow-mul-result-3 : goal.overflow-mul-result-3
-overflow-mul-result-3 c = omega (arith, second c, c.requires.twice)
+pub overflow_mul-result-3 : goal.overflow_mul-result-3
+overflow_mul-result-3 c = omega (arith, second c, c.requires.twice)
 
-pub overflow-sub-result : goal.overflow-sub-result
-overflow-sub-result c = omega (arith, second c)
+pub overflow_sub-result : goal.overflow_sub-result
+overflow_sub-result c = omega (arith, second c)
 
 pub returns : goal.returns
 returns c =

@@ -23,17 +23,17 @@ module _ (mirror : Option ℕ) (steps : List Step) (top : ℕ) (is : mirror ≡ 
   high_is : take (length steps - (top + 1)) (drop (top + 1) steps) ≡ drop (top + 1) steps
   high_is = take_rest steps (top + 1)
 
-pub slice-bounds-mirrored-value-end : goal.slice-bounds-mirrored-value-end
-slice-bounds-mirrored-value-end c = let h = inside c.args.mirror c.args.steps.now c.in-Some.top c.in-Some.is c.requires.top in search rules
+pub slice_bounds-mirrored_value-end : goal.slice_bounds-mirrored_value-end
+slice_bounds-mirrored_value-end c = let h = inside c.args.mirror c.args.steps.now c.in-Some.top c.in-Some.is c.requires.top in search rules
 
-pub offset-bounds-steps-top : goal.offset-bounds-steps-top
-offset-bounds-steps-top c = let h = inside c.args.mirror c.args.steps.now c.in-Some.top c.in-Some.is c.requires.top in search rules
+pub offset_bounds-steps-top : goal.offset_bounds-steps-top
+offset_bounds-steps-top c = let h = inside c.args.mirror c.args.steps.now c.in-Some.top c.in-Some.is c.requires.top in search rules
 
 pub bounds-steps-top : goal.bounds-steps-top
 bounds-steps-top c = inside c.args.mirror c.args.steps.now c.in-Some.top c.in-Some.is c.requires.top
 
-pub mirrored-value-value-requires : goal.mirrored-value-value-requires
-mirrored-value-value-requires c =
+pub mirrored_value-value-requires : goal.mirrored_value-value-requires
+mirrored_value-value-requires c =
     let steps = c.args.steps.now in
     let top = c.in-Some.top in
     let a = (around_top c.args.capacity steps top c.requires.standing (at_top c.args.mirror steps top c.in-Some.is c.requires.top)).0 in
@@ -46,17 +46,17 @@ mirrored-value-value-requires c =
       size = c.requires.size;
     }
 
-pub overflow-add-top : goal.overflow-add-top
-overflow-add-top c = let h = inside c.args.mirror c.args.steps.now c.in-Some.top c.in-Some.is c.requires.top in search rules
+pub overflow_add-top : goal.overflow_add-top
+overflow_add-top c = let h = inside c.args.mirror c.args.steps.now c.in-Some.top c.in-Some.is c.requires.top in search rules
 
-pub offset-bounds-steps-top-in-Some : goal.offset-bounds-steps-top-in-Some
-offset-bounds-steps-top-in-Some c = let h = inside c.args.mirror c.args.steps.now c.in-Some.top c.in-Some.is c.requires.top in search rules
+pub offset_bounds-steps-top-in-Some : goal.offset_bounds-steps-top-in-Some
+offset_bounds-steps-top-in-Some c = let h = inside c.args.mirror c.args.steps.now c.in-Some.top c.in-Some.is c.requires.top in search rules
 
-pub slice-bounds-climb-count : goal.slice-bounds-climb-count
-slice-bounds-climb-count c = let h = inside c.args.mirror c.args.steps.now c.in-Some.top c.in-Some.is c.requires.top in omega arith
+pub slice_bounds-climb-count : goal.slice_bounds-climb-count
+slice_bounds-climb-count c = let h = inside c.args.mirror c.args.steps.now c.in-Some.top c.in-Some.is c.requires.top in omega arith
 
-pub slice-bounds-climb-start : goal.slice-bounds-climb-start
-slice-bounds-climb-start c = let h = inside c.args.mirror c.args.steps.now c.in-Some.top c.in-Some.is c.requires.top in search rules
+pub slice_bounds-climb-start : goal.slice_bounds-climb-start
+slice_bounds-climb-start c = let h = inside c.args.mirror c.args.steps.now c.in-Some.top c.in-Some.is c.requires.top in search rules
 
 pub climb-requires-in-Some : goal.climb-requires-in-Some
 climb-requires-in-Some c =
@@ -65,8 +65,8 @@ climb-requires-in-Some c =
     let a = (around_top c.args.capacity steps top c.requires.standing (at_top c.args.mirror steps top c.in-Some.is c.requires.top)).0 in
     let below = (get_or steps top no_step).below in
     let b = image_positive c.args.capacity (take top steps) c.requires.limits a.standing below a.image in
-    subst (λ (xs : List Step). Climbs c.mirrored-value-value.result xs) (sym (high_is c.args.mirror steps top c.in-Some.is c.requires.top))
-    (record { ground = 2 * below; limits = (omega arith, a.twice); standing = a.above; low = c.mirrored-value-value.ensures.within })
+    subst (λ (xs : List Step). Climbs c.mirrored_value-value.result xs) (sym (high_is c.args.mirror steps top c.in-Some.is c.requires.top))
+    (record { ground = 2 * below; limits = (omega arith, a.twice); standing = a.above; low = c.mirrored_value-value.ensures.within })
 
 pub returns-in-None : goal.returns-in-None
 returns-in-None c =
@@ -78,9 +78,9 @@ returns-in-Some c =
     let top = c.in-Some.top in
     let r = around_top c.args.capacity steps top c.requires.standing (at_top c.args.mirror steps top c.in-Some.is c.requires.top) in
     let all : top - 0 ≡ top = omega arith in
-    let value : c.mirrored-value-value.result ≡ mirrored c.args.capacity (get_or steps top no_step).below (values_of c.args.capacity c.args.capacity identity (rows_of (take top steps))) c.args.size =
-    c.mirrored-value-value.ensures.value ∙ ap (λ n. mirrored c.args.capacity (get_or steps top no_step).below (values_of c.args.capacity c.args.capacity identity (rows_of (take n steps))) c.args.size) all in
+    let value : c.mirrored_value-value.result ≡ mirrored c.args.capacity (get_or steps top no_step).below (values_of c.args.capacity c.args.capacity identity (rows_of (take top steps))) c.args.size =
+    c.mirrored_value-value.ensures.value ∙ ap (λ n. mirrored c.args.capacity (get_or steps top no_step).below (values_of c.args.capacity c.args.capacity identity (rows_of (take n steps))) c.args.size) all in
     c.climb-in-Some.ensures
-    ∙ ap (climbed c.mirrored-value-value.result) (high_is c.args.mirror steps top c.in-Some.is c.requires.top)
+    ∙ ap (climbed c.mirrored_value-value.result) (high_is c.args.mirror steps top c.in-Some.is c.requires.top)
     ∙ ap (λ n. climbed n (drop (top + 1) steps)) value
     ∙ sym (r.1 c.args.size)

@@ -5,14 +5,14 @@ use Rattle.banks.specs.Banks.{bank_number, surveyed}
 use Rattle.banks.specs.Contents.{bank_piles}
 use Rattle.banks.proofs.asking.BankBounder.number.Goals as goal
 
-pub returns-in-err-greatest : goal.returns-in-err-greatest
-returns-in-err-greatest c =
+pub returns-in_err-greatest : goal.returns-in_err-greatest
+returns-in_err-greatest c =
     let b = c.args.self.now in
-    let q = err_from_is_err_and c.from-residual.result c.from-residual.ensures.1 in
-    rw (q.1, q.2) (asked_refused b.capacity (surveyed b.capacity (bank_piles b)) (bank_number b.capacity (bank_piles b)) c.args.list.now c.in-err-greatest.field-0.0 c.in-err-greatest.ensures)
+    let q = err_from_is_err_and c.from_residual.result c.from_residual.ensures.1 in
+    rw (q.1, q.2) (asked_refused b.capacity (surveyed b.capacity (bank_piles b)) (bank_number b.capacity (bank_piles b)) c.args.list.now c.in_err-greatest.field-0.0 c.in_err-greatest.ensures)
 
 pub returns : goal.returns
 returns c =
     let b = c.args.self.now in
-    let a = asked_answered b.capacity (surveyed b.capacity (bank_piles b)) (bank_number b.capacity (bank_piles b)) c.args.list.now (c.in-ok-greatest.greatest, c.in-ok-greatest.field-0-1) c.in-ok-greatest.ensures in
+    let a = asked_answered b.capacity (surveyed b.capacity (bank_piles b)) (bank_number b.capacity (bank_piles b)) c.args.list.now (c.in_ok-greatest.greatest, c.in_ok-greatest.field-0-1) c.in_ok-greatest.ensures in
     ap (λ (p : ℕ × Option ℕ). Ok p.0) a.0 ∙ sym a.1

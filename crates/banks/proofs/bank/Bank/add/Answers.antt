@@ -8,8 +8,8 @@ use Rattle.banks.specs.Contents.{bank_piles}
 use Rattle.banks.proofs.OneMore.{piles_pushed, standing_pushed, added}
 use Rattle.banks.proofs.bank.Bank.add.Goals as goal
 
-pub invariant-of-self : goal.invariant-of-self
-invariant-of-self c =
+pub invariant_of-self : goal.invariant_of-self
+invariant_of-self c =
     let b = c.args.self.now in
     let same : c.args.pile.now.capacity ≡ b.capacity = ap (λ (p : ℕ × ℕ). p.0) (sym c.capacities-capacity.ensures) ∙ c.if-capacity-self.false in
     let made = ap is_ok (ap (λ d. pile_of d (rows_in c.rows.result)) (sym same) ∙ c.rows.ensures.again) in (
@@ -17,9 +17,9 @@ invariant-of-self c =
       (
         length-set b.piles b.count c.rows.result ∙ b.room,
         (
-          omega (arith, c.if-self-ge-MOST-PILES.false),
+          omega (arith, c.if-self-ge-MOST_PILES.false),
           (
-            standing_pushed b c.rows.result c.if-self-ge-MOST-PILES.false made,
+            standing_pushed b c.rows.result c.if-self-ge-MOST_PILES.false made,
             tt,
           ),
         ),
@@ -31,9 +31,9 @@ returns c =
     let b = c.args.self.now in
     let pile = c.args.pile.now in
     let same : pile.capacity ≡ b.capacity = ap (λ (p : ℕ × ℕ). p.0) (sym c.capacities-capacity.ensures) ∙ c.if-capacity-self.false in
-    let e = added b pile.capacity (pile_rows pile) c.if-self-ge-MOST-PILES.false same in
+    let e = added b pile.capacity (pile_rows pile) c.if-self-ge-MOST_PILES.false same in
     record {
       answer = ap checked (sym e);
       capacity = refl;
-      piles = piles_pushed b c.rows.result c.if-self-ge-MOST-PILES.false ∙ ap (λ rows. bank_piles b ++ rows ∷ []) c.rows.ensures.rows ∙ ap (kept_or (bank_piles b)) (sym e);
+      piles = piles_pushed b c.rows.result c.if-self-ge-MOST_PILES.false ∙ ap (λ rows. bank_piles b ++ rows ∷ []) c.rows.ensures.rows ∙ ap (kept_or (bank_piles b)) (sym e);
     }

@@ -5,14 +5,14 @@ use Rattle.banks.specs.Banks.{best_pile_of, surveyed}
 use Rattle.banks.specs.Contents.{bank_piles}
 use Rattle.banks.proofs.bank.Bank.best_pile.Goals as goal
 
-pub returns-in-err-best : goal.returns-in-err-best
-returns-in-err-best c =
+pub returns-in_err-best : goal.returns-in_err-best
+returns-in_err-best c =
     let b = c.args.self.now in
-    let q = err_from_is_err_and c.from-residual.result c.from-residual.ensures.1 in
-    rw (q.1, q.2) (asked_refused b.capacity (surveyed b.capacity (bank_piles b)) (best_pile_of b.capacity (bank_piles b)) c.args.list.now c.in-err-best.field-0.0 c.in-err-best.ensures)
+    let q = err_from_is_err_and c.from_residual.result c.from_residual.ensures.1 in
+    rw (q.1, q.2) (asked_refused b.capacity (surveyed b.capacity (bank_piles b)) (best_pile_of b.capacity (bank_piles b)) c.args.list.now c.in_err-best.field-0.0 c.in_err-best.ensures)
 
 pub returns : goal.returns
 returns c =
     let b = c.args.self.now in
-    let a = asked_answered b.capacity (surveyed b.capacity (bank_piles b)) (best_pile_of b.capacity (bank_piles b)) c.args.list.now (c.in-ok-best.field-0-0, c.in-ok-best.best) c.in-ok-best.ensures in
+    let a = asked_answered b.capacity (surveyed b.capacity (bank_piles b)) (best_pile_of b.capacity (bank_piles b)) c.args.list.now (c.in_ok-best.field-0-0, c.in_ok-best.best) c.in_ok-best.ensures in
     ap (λ (p : ℕ × Option ℕ). Ok p.1) a.0 ∙ sym a.1

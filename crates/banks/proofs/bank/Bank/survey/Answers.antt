@@ -10,11 +10,11 @@ use Rattle.banks.specs.Contents.{bank_piles}
 use Rattle.banks.proofs.Surveys.{Best, best_better, no_rows, held_made, bound_inside, bound_at}
 use Rattle.banks.proofs.bank.Bank.survey.Goals as goal
 
-pub returns-in-err-check-list : goal.returns-in-err-check-list
-returns-in-err-check-list c =
+pub returns-in_err-check_list : goal.returns-in_err-check_list
+returns-in_err-check_list c =
     let b = c.args.self.now in
-    let q = err_from_is_err_and c.from-residual.result c.from-residual.ensures.1 in
-    rw (q.1, q.2) (asked_refused {X = Unit} b.capacity (λ _. tt) (surveyed b.capacity (bank_piles b)) c.args.list.now c.in-err-check-list.field-0.0 c.in-err-check-list.ensures)
+    let q = err_from_is_err_and c.from_residual.result c.from_residual.ensures.1 in
+    rw (q.1, q.2) (asked_refused {X = Unit} b.capacity (λ _. tt) (surveyed b.capacity (bank_piles b)) c.args.list.now c.in_err-check_list.field-0.0 c.in_err-check_list.ensures)
 
 pub loop-i-init : goal.loop-i-init
 loop-i-init c =
@@ -24,17 +24,17 @@ loop-i-init c =
     let none : drop (length piles) numbers ≡ [] = drop_all (length piles) numbers (omega (arith, length-map (map rows_in piles) (pile_bound b.capacity c.args.list.now), length-map piles rows_in)) in
     (sym (ap greatest_of none), sym (ap (first_with 0 (length piles)) none))
 
-pub bound-of-requires : goal.bound-of-requires
-bound-of-requires c =
+pub bound_of-requires : goal.bound_of-requires
+bound_of-requires c =
     let b = c.args.self.now in
     let piles = c.held-piles.result.now in
     held_made b.capacity piles (c.loop-i.i - 1) (omega (arith, c.loop-i-test.true, c.loop-i.auto.i)) (ap (λ xs. all_made b.capacity (map rows_in xs)) c.held-piles.ensures ∙ b.standing)
 
-pub returns-in-err-bound : goal.returns-in-err-bound
-returns-in-err-bound c =
+pub returns-in_err-bound : goal.returns-in_err-bound
+returns-in_err-bound c =
     let b = c.args.self.now in
-    let q = err_from_is_err_and c.from-residual-in-err-bound.result c.from-residual-in-err-bound.ensures.1 in
-    rw (q.1, q.2) (asked_refused {X = ℕ} b.capacity (λ l. pile_bound b.capacity l (rows_in (get_or c.held-piles.result.now (c.loop-i.i - 1) no_rows))) (surveyed b.capacity (bank_piles b)) c.args.list.now c.in-err-bound.field-0.0 c.in-err-bound.ensures)
+    let q = err_from_is_err_and c.from_residual-in_err-bound.result c.from_residual-in_err-bound.ensures.1 in
+    rw (q.1, q.2) (asked_refused {X = ℕ} b.capacity (λ l. pile_bound b.capacity l (rows_in (get_or c.held-piles.result.now (c.loop-i.i - 1) no_rows))) (surveyed b.capacity (bank_piles b)) c.args.list.now c.in_err-bound.field-0.0 c.in_err-bound.ensures)
 
 -- the best so far, one place further down
 module _ (c : ℕ) (piles : List Rows) (list : List ℕ) (i bound : ℕ) (found : ℕ × Option ℕ) (some : 0 < i) (few : i ≤ length piles) (so_far : Best (pile_bounds c (map rows_in piles) list) i found) (is : bound ≡ pile_bound c list (rows_in (get_or piles (i - 1) no_rows))) where
@@ -52,9 +52,9 @@ loop-i-preserved c =
     let b = c.args.self.now in
     let list = c.args.list.now in
     let piles = c.held-piles.result.now in
-    let a = asked_answered {X = ℕ} b.capacity (λ l. pile_bound b.capacity l (rows_in (get_or piles (c.loop-i.i - 1) no_rows))) (surveyed b.capacity (bank_piles b)) list c.in-ok-bound.bound c.in-ok-bound.ensures in
-    subst (λ (found : ℕ × Option ℕ). Best (pile_bounds b.capacity (map rows_in piles) list) (c.loop-i.i - 1) found) (sym c.better-of-found.ensures)
-    (further b.capacity piles list c.loop-i.i c.in-ok-bound.bound c.loop-i.found c.loop-i-test.true c.loop-i.auto.i c.loop-i.invariant a.0)
+    let a = asked_answered {X = ℕ} b.capacity (λ l. pile_bound b.capacity l (rows_in (get_or piles (c.loop-i.i - 1) no_rows))) (surveyed b.capacity (bank_piles b)) list c.in_ok-bound.bound c.in_ok-bound.ensures in
+    subst (λ (found : ℕ × Option ℕ). Best (pile_bounds b.capacity (map rows_in piles) list) (c.loop-i.i - 1) found) (sym c.better_of-found.ensures)
+    (further b.capacity piles list c.loop-i.i c.in_ok-bound.bound c.loop-i.found c.loop-i-test.true c.loop-i.auto.i c.loop-i.invariant a.0)
 
 pub returns : goal.returns
 returns c =
@@ -65,5 +65,5 @@ returns c =
     let all = subst (λ (k : ℕ). Best (pile_bounds b.capacity (map rows_in c.held-piles.result.now) list) k c.loop-i.found) end c.loop-i.invariant in
     let whole : Best numbers 0 c.loop-i.found = subst (λ (xs : List Rows). Best (pile_bounds b.capacity (map rows_in xs) list) 0 c.loop-i.found) c.held-piles.ensures all in
     let best : c.loop-i.found.1 ≡ best_pile_of b.capacity (bank_piles b) list = whole.1 ∙ ap (λ m. first_with m 0 numbers) whole.0 in
-    let a = asked_answered {X = Unit} b.capacity (λ _. tt) (surveyed b.capacity (bank_piles b)) list tt c.in-ok-check-list.ensures in
+    let a = asked_answered {X = Unit} b.capacity (λ _. tt) (surveyed b.capacity (bank_piles b)) list tt c.in_ok-check_list.ensures in
     ap (λ m. Ok (m, c.loop-i.found.1)) whole.0 ∙ ap (λ o. Ok (bank_number b.capacity (bank_piles b) list, o)) best ∙ sym a.1

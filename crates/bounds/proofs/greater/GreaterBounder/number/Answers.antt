@@ -37,21 +37,21 @@ module _ (g : given.Over) (a : g.row.A.Denot) (b : g.row.B.Denot) (list : List �
       let u = asked_answered d second both list n f in
       sym (t.1 ∙ rw (eq-eqb c d same, t.0, u.0))
 
-pub returns-in-err-first : goal.returns-in-err-first
-returns-in-err-first g c =
-    let e = refused_first g c.args.self.now.first c.args.self.now.second c.args.list.now c.in-err-first.field-0.0 c.in-err-first.ensures in
+pub returns-in_err-first : goal.returns-in_err-first
+returns-in_err-first g c =
+    let e = refused_first g c.args.self.now.first c.args.self.now.second c.args.list.now c.in_err-first.field-0.0 c.in_err-first.ensures in
     search rules
 
 pub returns-then-capacity : goal.returns-then-capacity
 returns-then-capacity g c =
-    answered_none g c.args.self.now.first c.args.self.now.second c.args.list.now c.in-ok-first.first c.in-ok-first.ensures (λ e. c.if-capacity.true (cc))
+    answered_none g c.args.self.now.first c.args.self.now.second c.args.list.now c.in_ok-first.first c.in_ok-first.ensures (λ e. c.if-capacity.true (cc))
 
-pub returns-in-err-second : goal.returns-in-err-second
-returns-in-err-second g c =
-    let e = refused_second g c.args.self.now.first c.args.self.now.second c.args.list.now c.in-err-second.field-0.0 c.in-err-second.ensures (cc) in
+pub returns-in_err-second : goal.returns-in_err-second
+returns-in_err-second g c =
+    let e = refused_second g c.args.self.now.first c.args.self.now.second c.args.list.now c.in_err-second.field-0.0 c.in_err-second.ensures (cc) in
     search rules
 
 pub returns : goal.returns
 returns g c =
-    let e = answered_both g c.args.self.now.first c.args.self.now.second c.args.list.now c.in-ok-first.first c.in-ok-second.second c.in-ok-first.ensures c.in-ok-second.ensures (cc) in
+    let e = answered_both g c.args.self.now.first c.args.self.now.second c.args.list.now c.in_ok-first.first c.in_ok-second.second c.in_ok-first.ensures c.in_ok-second.ensures (cc) in
     search rules

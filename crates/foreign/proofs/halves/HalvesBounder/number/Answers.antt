@@ -5,9 +5,9 @@ use Rattle.bounds.proofs.Entries.{asked_refused, asked_answered}
 use Rattle.foreign.specs.AboveHalf.{above_half}
 use Rattle.foreign.proofs.halves.HalvesBounder.number.Goals as goal
 
-pub returns-in-err-check-list : goal.returns-in-err-check-list
-returns-in-err-check-list c =
-    let e = asked_refused {X = Unit} c.args.self.now.capacity (λ _. tt) (above_half c.args.self.now.capacity) c.args.list.now c.in-err-check-list.field-0.0 c.in-err-check-list.ensures in
+pub returns-in_err-check_list : goal.returns-in_err-check_list
+returns-in_err-check_list c =
+    let e = asked_refused {X = Unit} c.args.self.now.capacity (λ _. tt) (above_half c.args.self.now.capacity) c.args.list.now c.in_err-check_list.field-0.0 c.in_err-check_list.ensures in
     search rules
 
 pub loop-size-preserved : goal.loop-size-preserved
@@ -18,5 +18,5 @@ loop-size-preserved c =
 pub returns : goal.returns
 returns c =
     let count : c.loop-size.count ≡ above_half c.args.self.now.capacity c.args.list.now = omega (arith, at_drop_all (above_half c.args.self.now.capacity) c.args.list.now c.loop-size.size-index (omega arith)) in
-    let told = asked_answered {X = Unit} c.args.self.now.capacity (λ _. tt) (above_half c.args.self.now.capacity) c.args.list.now tt c.in-ok-check-list.ensures in
+    let told = asked_answered {X = Unit} c.args.self.now.capacity (λ _. tt) (above_half c.args.self.now.capacity) c.args.list.now tt c.in_ok-check_list.ensures in
     ap Ok count ∙ sym told.1

@@ -8,8 +8,8 @@ pub returns : goal.returns
 returns g c =
     let outer = c.args.self.now.outer in
     let inner = c.args.self.now.inner in
-    let o = c.own-capacities-image.ensures in
-    let i = c.own-capacities-capacity.ensures in
+    let o = c.own_capacities-image.ensures in
+    let i = c.own_capacities-capacity.ensures in
     let capacities : g.O.Superadditive.capacity outer ≡ g.O.DualFeasible.capacity outer = ap (λ (p : ℕ × ℕ). p.0) (sym o.value ∙ o.same) in
     let images : g.I.Superadditive.image inner ≡ g.I.DualFeasible.image inner = ap (λ (p : ℕ × ℕ). p.1) (sym i.value ∙ i.same) in
     record {

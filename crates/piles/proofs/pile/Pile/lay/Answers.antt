@@ -10,32 +10,32 @@ use Rattle.piles.proofs.Checks.{ninth_refused, kind_unknown, kind_known, row_acc
 use Rattle.piles.specs.Pushing.{rows_counted}
 use Rattle.piles.proofs.pile.Pile.lay.Goals as goal
 
-pub returns-then-self-ge-MOST-ROWS : goal.returns-then-self-ge-MOST-ROWS
-returns-then-self-ge-MOST-ROWS c =
+pub returns-then-self-ge-MOST_ROWS : goal.returns-then-self-ge-MOST_ROWS
+returns-then-self-ge-MOST_ROWS c =
     let p = c.args.self.now in
-    let full : most_rows ≤ length (pile_rows p) = omega (arith, rows_counted p, c.if-self-ge-MOST-ROWS.true) in
+    let full : most_rows ≤ length (pile_rows p) = omega (arith, rows_counted p, c.if-self-ge-MOST_ROWS.true) in
     let e = ninth_refused p.capacity (pile_rows p) c.args.kind c.args.parameter full in
     record { answer = ap Err c.declined.ensures ∙ ap checked (sym e); capacity = refl; rows = ap (kept_or (pile_rows p)) (sym e) }
 
-pub returns-in-default : goal.returns-in-default
-returns-in-default c =
+pub returns-in_default : goal.returns-in_default
+returns-in_default c =
     let p = c.args.self.now in
-    let few : length (pile_rows p) < most_rows = omega (arith, rows_counted p, c.if-self-ge-MOST-ROWS.false) in
-    let e = kind_unknown p.capacity (pile_rows p) c.args.kind c.args.parameter few c.in-default.ensures in
-    record { answer = ap Err c.declined-in-default.ensures ∙ ap (λ n. Err (fault Parameter Pile n)) (sym (rows_counted p)) ∙ ap checked (sym e); capacity = refl; rows = ap (kept_or (pile_rows p)) (sym e) }
+    let few : length (pile_rows p) < most_rows = omega (arith, rows_counted p, c.if-self-ge-MOST_ROWS.false) in
+    let e = kind_unknown p.capacity (pile_rows p) c.args.kind c.args.parameter few c.in_default.ensures in
+    record { answer = ap Err c.declined-in_default.ensures ∙ ap (λ n. Err (fault Parameter Pile n)) (sym (rows_counted p)) ∙ ap checked (sym e); capacity = refl; rows = ap (kept_or (pile_rows p)) (sym e) }
 
-pub returns-in-err-check-row : goal.returns-in-err-check-row
-returns-in-err-check-row c =
+pub returns-in_err-check_row : goal.returns-in_err-check_row
+returns-in_err-check_row c =
     let p = c.args.self.now in
-    let few : length (pile_rows p) < most_rows = omega (arith, rows_counted p, c.if-self-ge-MOST-ROWS.false) in
+    let few : length (pile_rows p) < most_rows = omega (arith, rows_counted p, c.if-self-ge-MOST_ROWS.false) in
     let e = kind_known p.capacity (pile_rows p) c.args.kind c.args.parameter few c.in-Some.kind c.in-Some.ensures in
-    let q = err_from_is_err_and c.from-residual.result c.from-residual.ensures.1 in
-    let f = e ∙ refused_is (λ _. tt) (row_laid p.capacity (pile_rows p) (Some c.in-Some.kind) c.args.parameter) c.in-err-check-row.field-0.0 c.in-err-check-row.ensures in
+    let q = err_from_is_err_and c.from_residual.result c.from_residual.ensures.1 in
+    let f = e ∙ refused_is (λ _. tt) (row_laid p.capacity (pile_rows p) (Some c.in-Some.kind) c.args.parameter) c.in_err-check_row.field-0.0 c.in_err-check_row.ensures in
     record { answer = rw (q.1, q.2) (ap checked (sym f)); capacity = refl; rows = ap (kept_or (pile_rows p)) (sym f) }
 
 pub returns : goal.returns
 returns c =
     let p = c.args.self.now in
-    let few : length (pile_rows p) < most_rows = omega (arith, rows_counted p, c.if-self-ge-MOST-ROWS.false) in
+    let few : length (pile_rows p) < most_rows = omega (arith, rows_counted p, c.if-self-ge-MOST_ROWS.false) in
     let e = kind_known p.capacity (pile_rows p) c.args.kind c.args.parameter few c.in-Some.kind c.in-Some.ensures in
-    record { answer = c.in-ok-check-row.ensures ∙ ap checked (sym e); capacity = c.push.ensures.capacity; rows = c.push.ensures.rows ∙ ap (kept_or (pile_rows p)) (sym (e ∙ row_accepted p.capacity (pile_rows p) c.in-Some.kind c.args.parameter c.in-ok-check-row.ensures)) }
+    record { answer = c.in_ok-check_row.ensures ∙ ap checked (sym e); capacity = c.push.ensures.capacity; rows = c.push.ensures.rows ∙ ap (kept_or (pile_rows p)) (sym (e ∙ row_accepted p.capacity (pile_rows p) c.in-Some.kind c.args.parameter c.in_ok-check_row.ensures)) }

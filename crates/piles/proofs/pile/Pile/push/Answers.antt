@@ -10,8 +10,8 @@ use Rattle.piles.specs.declared.rows.Step.{Step}
 use Rattle.piles.specs.Pushing.{steps_pushed, rows_pushed, stands_push, unmixed_push, image_push}
 use Rattle.piles.proofs.pile.Pile.push.Goals as goal
 
-pub invariant-of-self : goal.invariant-of-self
-invariant-of-self c =
+pub invariant_of-self : goal.invariant_of-self
+invariant_of-self c =
     let p = c.args.self.now in
     let row = c.args.row in
     let kind = row.kind in
@@ -30,11 +30,11 @@ invariant-of-self c =
               subst (λ (xs : List Row). unmixed false xs ≡ true) (sym rows)
                   (unmixed_push false (pile_rows p) row p.order (subst (λ (b : Bool). (symmetrises kind && b) ≡ false) p.counted c.requires.apart)),
               (
-                c.image-over-image.ensures ∙ ap (λ d. image_over_kind kind d row.parameter) p.whole ∙ sym (image_push p.capacity (pile_rows p) row) ∙ ap (layered_image p.capacity) (sym rows),
+                c.image_over-image.ensures ∙ ap (λ d. image_over_kind kind d row.parameter) p.whole ∙ sym (image_push p.capacity (pile_rows p) row) ∙ ap (layered_image p.capacity) (sym rows),
                 (
-                  subst (λ (xs : List Row). topmost c.mirror-with-mirror.result xs ≡ true) (sym rows) c.mirror-with-mirror.ensures,
+                  subst (λ (xs : List Row). topmost c.mirror_with-mirror.result xs ≡ true) (sym rows) c.mirror_with-mirror.ensures,
                   (
-                    c.counting-with-counting.ensures ∙ ap counting_among (sym rows),
+                    c.counting_with-counting.ensures ∙ ap counting_among (sym rows),
                     tt,
                   ),
                 ),

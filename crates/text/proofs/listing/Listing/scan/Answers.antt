@@ -2,7 +2,7 @@ use Rattle.std.proofs.Common.{Err, sym, ap, ◌∙◌, arith}
 use Rattle.text.specs.Listings.{content}
 use Rattle.text.proofs.Scanning.{scan_byte, scan_line, scan_refused, scan_ends, scan_breaks}
 use Rattle.text.proofs.listing.Listing.scan.Goals as goal
-use Rattle.text.proofs.listing.Listing.scan.Goals.{then-b-eq10+in-default, else-b-eq10}
+use Rattle.text.proofs.listing.Listing.scan.Goals.{then-b-eq10+in_default, else-b-eq10}
 
 pub returns-in-Err : goal.returns-in-Err
 returns-in-Err c =
@@ -15,11 +15,11 @@ loop-i-preserved c =
     let i = c.loop-i.i in
     let line = c.loop-i.line in
     elim c.if-b-eq10.branch [
-      | then-b-eq10+in-default w ↦ (
+      | then-b-eq10+in_default w ↦ (
         omega arith,
         omega arith,
         rw (w.line_is, w.start-is, w.self-is)
-            (sym (scan_line text start i line (content c.loop-i.self) (content w.read-line.new.self) c.loop-i-test.true w.if-b-eq10.true (sym w.in-default.ensures))
+            (sym (scan_line text start i line (content c.loop-i.self) (content w.read_line.new.self) c.loop-i-test.true w.if-b-eq10.true (sym w.in_default.ensures))
             ∙ c.loop-i.invariant.2),
       )
       | else-b-eq10 w ↦ (
@@ -32,7 +32,7 @@ loop-i-preserved c =
 
 pub returns-then-start-text : goal.returns-then-start-text
 returns-then-start-text c =
-    ap Err c.malformed_at_line.ensures
+    ap Err c.malformed_at.ensures
     ∙ sym (sym c.loop-i.invariant.2 ∙ scan_breaks c.args.text.now c.loop-i.start c.loop-i.i c.loop-i.line (content c.loop-i.self) c.loop-i-test.false (omega arith) c.if-start-text.true)
 
 pub returns : goal.returns
