@@ -30,8 +30,8 @@ fn rounded_up(total: u64, image: u64) -> u64
 // A list of more than 64 entries is refused with 6, then the first entry above the capacity with 4 and its position.
 // No plan of the list has fewer bars.
 pub fn lower_bound<F: DualFeasible>(f: &F, list: &[u64]) -> Result<u64, Fault>
-    ensures answer { result ≡ asked (capacity f.now) (bound (image f.now) (map f.now)) list.now }
-    ensures least { AtLeast (capacity f.now) list.now (bound (image f.now) (map f.now) list.now) }
+    ensures answer { result ≡ asked (F.capacity f.now) (bound (F.image f.now) (F.map f.now)) list.now }
+    ensures least { AtLeast (F.capacity f.now) list.now (bound (F.image f.now) (F.map f.now) list.now) }
 {
     if list.len() > MOST {
         return Err(Fault {
