@@ -6,7 +6,7 @@ pub returns : goal.returns
 returns c =
     record {
       count = refl;
-      break-law = (
+      break_law = (
         record { fits = lit≤ tt; weighs = refl; unlawful = λ lawful. omega (arith, lawful symmetrised_counting.sizes (lit≤ tt)) },
         (
           record { fits = lit≤ tt; weighs = refl; unlawful = λ lawful. omega (arith, lawful rounding_without_exact.sizes (lit≤ tt)) },

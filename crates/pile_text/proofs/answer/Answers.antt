@@ -27,8 +27,8 @@ module _ (text : List ℕ) (s : Content) (start : s ≡ empty) (p : Pile) (cuts 
 pub returns-in_err-listing : goal.returns-in_err-listing
 returns-in_err-listing c = record { text = search rules; refused = search rules; least = no_fewer_bars c.args.input.now; lines = read_as_written c.args.input.now }
 
-pub returns-in_err-lower_line : goal.returns-in_err-lower_line
-returns-in_err-lower_line c = record { text = search rules; refused = search rules; least = no_fewer_bars c.args.input.now; lines = read_as_written c.args.input.now }
+pub returns-in_err-lower_line-in-Ok : goal.returns-in_err-lower_line-in-Ok
+returns-in_err-lower_line-in-Ok c = record { text = search rules; refused = search rules; least = no_fewer_bars c.args.input.now; lines = read_as_written c.args.input.now }
 
 pub unwrap-lower-requires : goal.unwrap-lower-requires
 unwrap-lower-requires c =
@@ -44,14 +44,14 @@ returns-in-Ok c =
     let told = c.lower_figure.ensures ∙ ap (asked_of p.capacity (λ list. lower_of p.capacity list (pile_rows p))) c.as_slice.ensures.value ∙ figure_told c.args.input.now _ c.in_ok-listing.ensures p cuts c.in-Ok.ensures in
     let same : c.unwrap-lower.result ≡ lower_of p.capacity cuts (pile_rows p) = cc in
     record {
-      text = c.in_ok-lower_line.ensures ∙ ap lower_line_text same ∙ ap printed read;
+      text = c.in_ok-lower_line-in-Ok.ensures ∙ ap lower_line_text same ∙ ap printed read;
       refused = ap fault_of read;
       least = no_fewer_bars c.args.input.now;
       lines = read_as_written c.args.input.now;
     }
 
-pub returns-in_err-refused_line : goal.returns-in_err-refused_line
-returns-in_err-refused_line c = record { text = search rules; refused = search rules; least = no_fewer_bars c.args.input.now; lines = read_as_written c.args.input.now }
+pub returns-in_err-refused_line-in-Err : goal.returns-in_err-refused_line-in-Err
+returns-in_err-refused_line-in-Err c = record { text = search rules; refused = search rules; least = no_fewer_bars c.args.input.now; lines = read_as_written c.args.input.now }
 
 pub returns : goal.returns
 returns c = record { text = search rules; refused = search rules; least = no_fewer_bars c.args.input.now; lines = read_as_written c.args.input.now }

@@ -16,8 +16,8 @@ lower_figure-lower-requires c =
     let read = c.in-Ok.ensures ∙ ap (λ content. list_from content c.args.input.now) c.in_ok-listing.ensures in
     rw (c.as_slice.ensures.value, c.as_slice-in-Ok.ensures.value) (list_kept c.args.input.now list (sym read))
 
-pub returns-in_err-lower_line : goal.returns-in_err-lower_line
-returns-in_err-lower_line c = record { text = search rules; refused = search rules; least = no_fewer_bars c.args.input.now; lines = read_as_written c.args.input.now }
+pub returns-in_err-lower_line-in-Ok : goal.returns-in_err-lower_line-in-Ok
+returns-in_err-lower_line-in-Ok c = record { text = search rules; refused = search rules; least = no_fewer_bars c.args.input.now; lines = read_as_written c.args.input.now }
 
 pub returns-in-Ok : goal.returns-in-Ok
 returns-in-Ok c =
@@ -25,14 +25,14 @@ returns-in-Ok c =
     let told : c.lower_figure-lower.result ≡ lower_of size (vec_items c.read_text.new.self.cuts) (vec_items c.read_text.new.self.rows) = c.lower_figure-lower.ensures ∙ ap (λ cuts. lower_of size cuts c.as_slice-in-Ok.result.now) c.as_slice.ensures.value ∙ ap (lower_of size (vec_items c.read_text.new.self.cuts)) c.as_slice-in-Ok.ensures.value in
     let read = c.in-Ok.ensures ∙ ap (λ content. list_from content c.args.input.now) c.in_ok-listing.ensures in
     record {
-      text = c.in_ok-lower_line.ensures ∙ ap lower_line_text told ∙ ap printed read;
+      text = c.in_ok-lower_line-in-Ok.ensures ∙ ap lower_line_text told ∙ ap printed read;
       refused = ap fault_of read;
       least = no_fewer_bars c.args.input.now;
       lines = read_as_written c.args.input.now;
     }
 
-pub returns-in_err-refused_line : goal.returns-in_err-refused_line
-returns-in_err-refused_line c = record { text = search rules; refused = search rules; least = no_fewer_bars c.args.input.now; lines = read_as_written c.args.input.now }
+pub returns-in_err-refused_line-in-Err : goal.returns-in_err-refused_line-in-Err
+returns-in_err-refused_line-in-Err c = record { text = search rules; refused = search rules; least = no_fewer_bars c.args.input.now; lines = read_as_written c.args.input.now }
 
 pub returns : goal.returns
 returns c = record { text = search rules; refused = search rules; least = no_fewer_bars c.args.input.now; lines = read_as_written c.args.input.now }

@@ -12,19 +12,13 @@ pub invariant_of-self : goal.invariant_of-self
 invariant_of-self c =
     let b = c.args.self.now in
     let same : c.args.pile.now.capacity ≡ b.capacity = ap (λ (p : ℕ × ℕ). p.0) (sym c.capacities-capacity.ensures) ∙ c.if-capacity-self.false in
-    let made = ap is_ok (ap (λ d. pile_of d (rows_in c.rows.result)) (sym same) ∙ c.rows.ensures.again) in (
-      b.limits,
-      (
-        length-set b.piles b.count c.rows.result ∙ b.room,
-        (
-          omega (arith, c.if-self-ge-MOST_PILES.false),
-          (
-            standing_pushed b c.rows.result c.if-self-ge-MOST_PILES.false made,
-            tt,
-          ),
-        ),
-      ),
-    )
+    let made = ap is_ok (ap (λ d. pile_of d (rows_in c.rows.result)) (sym same) ∙ c.rows.ensures.again) in
+    record {
+      limits = b.limits;
+      room = length-set b.piles b.count c.rows.result ∙ b.room;
+      few = omega (arith, c.if-self-ge-MOST_PILES.false);
+      standing = standing_pushed b c.rows.result c.if-self-ge-MOST_PILES.false made;
+    }
 
 pub returns : goal.returns
 returns c =

@@ -18,14 +18,14 @@ loop-i-preserved c =
       | then-b-eq10+in_default w ↦ (
         omega arith,
         omega arith,
-        rw (w.line_is, w.start-is, w.self-is)
+        rw (w.line-is, w.start-is, w.self-is)
             (sym (scan_line text start i line (content c.loop-i.self) (content w.read_line.new.self) c.loop-i-test.true w.if-b-eq10.true (sym w.in_default.ensures))
             ∙ c.loop-i.invariant.2),
       )
       | else-b-eq10 w ↦ (
         omega arith,
         omega arith,
-        rw (w.line_is, w.start-is, w.self-is)
+        rw (w.line-is, w.start-is, w.self-is)
             (sym (scan_byte text start i line (content c.loop-i.self) c.loop-i.invariant.0 c.loop-i-test.true w.if-b-eq10.false) ∙ c.loop-i.invariant.2),
       )
     ]
