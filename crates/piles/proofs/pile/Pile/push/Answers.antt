@@ -23,13 +23,13 @@ invariant_of-self c =
       room = ap length c.put.ensures ∙ length-set p.steps p.count step ∙ p.room;
       few = omega (arith, c.requires.few);
       standing =
-        subst (λ (xs : List Step). stands p.capacity xs ≡ true) (sym steps)
-            (stands_push p.capacity (take p.count p.steps) step p.standing p.whole (subst (λ (d : ℕ). accepted kind d row.parameter ≡ true) p.whole c.requires.accepted));
+          subst (λ (xs : List Step). stands p.capacity xs ≡ true) (sym steps)
+          (stands_push p.capacity (take p.count p.steps) step p.standing p.whole (subst (λ (d : ℕ). accepted kind d row.parameter ≡ true) p.whole c.requires.accepted));
       order =
-        subst (λ (xs : List Row). unmixed false xs ≡ true) (sym rows)
-            (unmixed_push false (pile_rows p) row p.order (subst (λ (b : Bool). (symmetrises kind && b) ≡ false) p.counted c.requires.apart));
+          subst (λ (xs : List Row). unmixed false xs ≡ true) (sym rows)
+          (unmixed_push false (pile_rows p) row p.order (subst (λ (b : Bool). (symmetrises kind && b) ≡ false) p.counted c.requires.apart));
       whole =
-        c.image_over-image.ensures ∙ ap (λ d. image_over_kind kind d row.parameter) p.whole ∙ sym (image_push p.capacity (pile_rows p) row) ∙ ap (layered_image p.capacity) (sym rows);
+          c.image_over-image.ensures ∙ ap (λ d. image_over_kind kind d row.parameter) p.whole ∙ sym (image_push p.capacity (pile_rows p) row) ∙ ap (layered_image p.capacity) (sym rows);
       top = subst (λ (xs : List Row). topmost c.mirror_with-mirror.result xs ≡ true) (sym rows) c.mirror_with-mirror.ensures;
       counted = c.counting_with-counting.ensures ∙ ap counting_among (sym rows);
     }
