@@ -1,6 +1,6 @@
 -- The walk over a list that looks for an entry above the capacity.
 use Rattle.std.proofs.Common.{◌≡◌, ℕ, ◌+◌, ◌<◌, ◌≤◌, true, false, ltb, List, [], ◌∷◌, length, get_or, drop, Ok, Err, Result, sym, refl, ap, ◌∙◌, arith}
-use Rattle.std.specs.List.{AllByRecursion as All}
+use Rattle.std.specs.List.{AllByRecursion}
 use Rattle.std.proofs.lemmas.List.{at_drop_more, at_drop_all}
 use Rattle.std.proofs.lemmas.Bool.{lt-ltb, le-ltb}
 use Rattle.faults.specs.declared.Fault.{Fault}
@@ -23,12 +23,12 @@ module _ {X : Type 0} (c : ℕ) (list : List ℕ) (i : ℕ) (later : Result X Fa
   entries_passed h = at_drop_all (λ xs. entries_check c i xs later) list i h
 
 -- a list whose entries are within the capacity passes
-within_passes : {X : Type 0} (c i : ℕ) (list : List ℕ) (later : Result X Fault) → All (λ s. s ≤ c) list → entries_check c i list later ≡ later
+within_passes : {X : Type 0} (c i : ℕ) (list : List ℕ) (later : Result X Fault) → AllByRecursion (λ s. s ≤ c) list → entries_check c i list later ≡ later
 within_passes c i [] later h = refl
 within_passes c i (s ∷ list) later h = rw (le-ltb c s h.0) (within_passes c (i + 1) list later h.1)
 
 -- a list of at most 64 such entries is answered
-pub asked_number : {X : Type 0} (c : ℕ) (answer : List ℕ → X) (list : List ℕ) → length list ≤ 64 → All (λ s. s ≤ c) list → asked_of c answer list ≡ Ok (answer list)
+pub asked_number : {X : Type 0} (c : ℕ) (answer : List ℕ → X) (list : List ℕ) → length list ≤ 64 → AllByRecursion (λ s. s ≤ c) list → asked_of c answer list ≡ Ok (answer list)
 asked_number c answer list few h = rw (le-ltb 64 (length list) few) (within_passes c 0 list (Ok (answer list)) h)
 
 -- the walk refuses the same entry, whatever is later

@@ -1,6 +1,6 @@
 -- Figures worked out by hand: what a definition gives, and what was worked out.
 use Rattle.std.specs.Prelude.{◌≡◌, ℕ, List, [], ◌∷◌, replicate}
-use Rattle.std.specs.List.{AllByRecursion as All}
+use Rattle.std.specs.List.{AllByRecursion}
 use Rattle.bounds.specs.Bounds.{bound}
 use Rattle.functions.specs.Values.{identity, threshold, rounding, counting, rounding_image, counting_image}
 
@@ -32,4 +32,4 @@ figures =
 
 -- each figure is what the definition gives
 abbrev pub Agrees : List (ℕ × ℕ) → Type 0
-Agrees table = All (λ (f : ℕ × ℕ). f.0 ≡ f.1) table
+Agrees table = AllByRecursion (λ (f : ℕ × ℕ). f.0 ≡ f.1) table

@@ -1,6 +1,6 @@
 -- Functions that look right and break the law, each with a list of sizes that fits and weighs too much.
 use Rattle.std.specs.Prelude.{◌≡◌, ℕ, ◌+◌, ◌*◌, ◌/◌, ◌≤◌, List, [], ◌∷◌}
-use Rattle.std.specs.List.{AllByRecursion as All}
+use Rattle.std.specs.List.{AllByRecursion}
 use Rattle.plans.specs.Plans.{total, sum}
 use Rattle.dual_feasible.specs.Laws.{Lawful}
 use Rattle.functions.specs.Values.{counting, counting_image, rounding_image}
@@ -49,4 +49,4 @@ pub record Breaks (w : Wrong) : Type 0 where
   pub unlawful : Lawful w.capacity w.image w.value → ⊥
 
 abbrev pub AllBreak : List Wrong → Type 0
-AllBreak functions = All Breaks functions
+AllBreak functions = AllByRecursion Breaks functions

@@ -1,6 +1,6 @@
 -- Every list that is read keeps to its limits.
 use Rattle.std.proofs.Common.{◌≡◌, ℕ, ◌+◌, ◌≤◌, true, false, eqb, ltb, leb, List, [], ◌∷◌, ◌++◌, length, Some, None, Ok, Err, Option, Result, sym, refl, ap, ◌∙◌, subst, ⊎_elim, arith}
-use Rattle.std.specs.List.{AllByRecursion as All}
+use Rattle.std.specs.List.{AllByRecursion}
 use Rattle.std.proofs.ByRecursion.{All-push}
 use Rattle.std.proofs.lemmas.List.{length_push}
 use Rattle.std.proofs.lemmas.Bool.{cases_Bool, leb-false}
@@ -24,7 +24,7 @@ use Rattle.listings.specs.declared.reading.Stop.{Stop}
 -- there are at most 64 cuts, none is above the capacity, and the rows can be laid on a pile of the capacity
 pub record Kept (c : ℕ) (cuts : List ℕ) (rows : List Row) : Type 0 where
   pub few : length cuts ≤ 64
-  pub sized : All (λ s. s ≤ c) cuts
+  pub sized : AllByRecursion (λ s. s ≤ c) cuts
   pub pile : pile_of c rows ≡ Ok (c, rows)
 
 -- before there is a bar, nothing else is said

@@ -1,7 +1,7 @@
 -- A line that has an entry is the entry's word, a blank and the number's digits.
 use Rattle.std.proofs.Common.{◌≡◌, ℕ, suc, ◌+◌, ◌-◌, ◌*◌, ◌^◌, ◌<◌, ◌≤◌, Bool, true, false, not, ◌&&◌, ◌||◌, eqb, ltb, List, [], ◌∷◌, ◌++◌, length, get_or, take, drop, Some, None, decimal, Option, sym, refl, ap, ◌∙◌, ⊎_elim, mul_comm, one-add, arith, rules}
 use Rattle.std.specs.Char.{is_ascii_digit}
-use Rattle.std.specs.List.{prefix_len, AllByRecursion as All}
+use Rattle.std.specs.List.{prefix_len, AllByRecursion}
 use Rattle.std.specs.Str.{bytes_eq, all_ascii_digits}
 use Rattle.std.proofs.lemmas.Fmt.{decimal-digits_value, decimal_digit, decimal_nonempty, first_decimal, length-decimal-le, digits_decimal, digits_value-decimal}
 use Rattle.std.proofs.ByRecursion.{All-append}
@@ -146,7 +146,7 @@ abbrev one_line : List ℕ → Bool
 one_line [] = true
 one_line (b ∷ bytes) = not (eqb b 10) && one_line bytes
 
-one_line_all : (bytes : List ℕ) → one_line bytes ≡ true → All (λ b. b ≡ 10 → ⊥) bytes
+one_line_all : (bytes : List ℕ) → one_line bytes ≡ true → AllByRecursion (λ b. b ≡ 10 → ⊥) bytes
 one_line_all [] e = tt
 one_line_all (b ∷ bytes) e =
     let p = and_parts (not (eqb b 10)) (one_line bytes) e in
@@ -162,13 +162,13 @@ spelling_one_line (Row Counting) = refl
 spelling_one_line (Row Symmetrisation) = refl
 spelling_one_line (Row Scaling) = refl
 
-digits_one_line : (ds : List ℕ) → all_ascii_digits ds ≡ true → All (λ b. b ≡ 10 → ⊥) ds
+digits_one_line : (ds : List ℕ) → all_ascii_digits ds ≡ true → AllByRecursion (λ b. b ≡ 10 → ⊥) ds
 digits_one_line [] e = tt
 digits_one_line (d ∷ ds) e =
     let p = and_parts (is_ascii_digit d) (all_ascii_digits ds) e in
     (λ z. both_ways (is_ascii_digit d) (ap is_ascii_digit z) p.0, digits_one_line ds p.1)
 
 -- no line that is written so has a byte 10 in it
-pub entry_one_line : (w : Word) (n : ℕ) → n < 10 ^ 10 → All (λ b. b ≡ 10 → ⊥) (spelling w ++ (32 ∷ decimal n))
+pub entry_one_line : (w : Word) (n : ℕ) → n < 10 ^ 10 → AllByRecursion (λ b. b ≡ 10 → ⊥) (spelling w ++ (32 ∷ decimal n))
 entry_one_line w n h =
     All-append (λ b. b ≡ 10 → ⊥) (spelling w) (32 ∷ decimal n) (one_line_all (spelling w) (spelling_one_line w)) (λ z. omega arith, digits_one_line (decimal n) (digits_decimal own n (omega arith)))

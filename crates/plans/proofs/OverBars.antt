@@ -1,6 +1,6 @@
 -- The values of a list, added up bar by bar of a plan.
 use Rattle.std.proofs.Common.{◌≡◌, ℕ, zero, suc, ◌+◌, ◌*◌, ◌<◌, ◌≤◌, cond, eqb, ltb, List, [], ◌∷◌, length, refl, ⊎_elim, suc-mul, arith}
-use Rattle.std.specs.List.{AllByRecursion as All}
+use Rattle.std.specs.List.{AllByRecursion}
 use Rattle.std.proofs.lemmas.Bool.{cases_eq, eq-eqb, ne_eqb, lt-ltb}
 use Rattle.std.proofs.lemmas.Bool.Decides.{nat_tests}
 use Rattle.plans.specs.Plans.{total, sum, load, Packs}
@@ -42,7 +42,7 @@ module _ (v : ℕ → ℕ) where
       (λ (e : j ≡ n → ⊥). rw (ne_eqb j n e) (grind (arith, nat_tests)))
       (cases_eq j n)
 
-  before_all : (n : ℕ) (sizes plan : List ℕ) → length plan ≡ length sizes → All (λ j. j < n) plan → before n sizes plan ≡ total v sizes
+  before_all : (n : ℕ) (sizes plan : List ℕ) → length plan ≡ length sizes → AllByRecursion (λ j. j < n) plan → before n sizes plan ≡ total v sizes
   before_all n [] plan e h = refl
   before_all n (s ∷ sizes) [] e h = absurd (omega arith)
   before_all n (s ∷ sizes) (j ∷ plan) e h =

@@ -1,6 +1,6 @@
 -- Plans of a list of sizes over bars of one capacity.
 use Rattle.std.specs.Prelude.{◌≡◌, ℕ, ◌+◌, ◌<◌, ◌≤◌, cond, List, [], ◌∷◌, length, ◌==◌}
-use Rattle.std.specs.List.{AllByRecursion as All}
+use Rattle.std.specs.List.{AllByRecursion}
 
 -- the values of the sizes of a list, added up
 abbrev pub total : (ℕ → ℕ) → List ℕ → ℕ
@@ -20,7 +20,7 @@ load b (s ∷ sizes) (j ∷ plan) = cond (j == b) s 0 + load b sizes plan
 -- the plan puts each entry into one of the bars 0 to n - 1, and the entries of each bar fit into the capacity
 pub record Packs (capacity : ℕ) (sizes : List ℕ) (n : ℕ) (plan : List ℕ) : Type 0 where
   pub each : length plan ≡ length sizes
-  pub below : All (λ j. j < n) plan
+  pub below : AllByRecursion (λ j. j < n) plan
   pub fits : (b : ℕ) → load b sizes plan ≤ capacity
 
 -- every plan of the list has at least m bars

@@ -1,7 +1,7 @@
 -- No plan of a list has fewer bars than its lower figure says.
 use Rattle.std.proofs.Common.{◌≡◌, ℕ, ◌*◌, ◌≤◌, max, Bool, true, false, ◌||◌, ltb, List, [], ◌∷◌, is_ok, Ok, Err, Result, refl, one-mul, arith}
 use native.Mathlib.Nat.{one-le-mul}
-use Rattle.std.specs.List.{AllByRecursion as All}
+use Rattle.std.specs.List.{AllByRecursion}
 use Rattle.std.proofs.lemmas.Nat.{le-div}
 use Rattle.std.proofs.lemmas.Bool.{false≢true, ltb-false, or_parts}
 use Rattle.faults.specs.declared.Fault.{Fault}
@@ -61,7 +61,7 @@ row_lawful Counting c p e =
     let half : 2 * p ≤ c = ltb-false c (2 * p) o.1 in
     (counting_lawful c p low, le-div 1 c p low (omega (arith, one-mul p)))
 
-greatest_sound : (c : ℕ) (cuts : List ℕ) (n : ℕ) (rows : List Row) → AtLeast c cuts n → All (λ row. is_ok (row_made row.kind c row.parameter) ≡ true) rows → AtLeast c cuts (greatest_of c cuts n rows)
+greatest_sound : (c : ℕ) (cuts : List ℕ) (n : ℕ) (rows : List Row) → AtLeast c cuts n → AllByRecursion (λ row. is_ok (row_made row.kind c row.parameter) ≡ true) rows → AtLeast c cuts (greatest_of c cuts n rows)
 greatest_sound c cuts n [] least made = least
 greatest_sound c cuts n (row ∷ rows) least made =
     let l = row_lawful row.kind c row.parameter made.0 in

@@ -1,6 +1,6 @@
 -- The figures of a list that keeps to its limits.
 use Rattle.std.proofs.Common.{◌≡◌, ℕ, ◌<◌, ◌≤◌, true, List, length, get_or, is_ok, Ok, Err, Result}
-use Rattle.std.specs.List.{AllByRecursion as All}
+use Rattle.std.specs.List.{AllByRecursion}
 use Rattle.std.proofs.ByRecursion.{All-get_or}
 use Rattle.std.proofs.lemmas.Bool.{false≢true}
 use Rattle.faults.specs.declared.Fault.{Fault}
@@ -15,7 +15,7 @@ use Rattle.text.specs.Rows.{row_made, when_made}
 use Rattle.text.specs.declared.listing.Row.{Row}
 
 -- a function that can be made answers its bound
-pub bound_told : {X : Type 0} (m : Result X Fault) (c : ℕ) (number : List ℕ → ℕ) (cuts : List ℕ) → is_ok m ≡ true → length cuts ≤ 64 → All (λ s. s ≤ c) cuts
+pub bound_told : {X : Type 0} (m : Result X Fault) (c : ℕ) (number : List ℕ → ℕ) (cuts : List ℕ) → is_ok m ≡ true → length cuts ≤ 64 → AllByRecursion (λ s. s ≤ c) cuts
     → when_made m (asked c number cuts) ≡ Ok (number cuts)
 bound_told (Ok x) c number cuts e few h = asked_number c number cuts few h
 bound_told (Err f) c number cuts e few h = absurd (false≢true e)

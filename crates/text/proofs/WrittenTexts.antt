@@ -1,6 +1,6 @@
 -- The reading of a text is that of its lines.
 use Rattle.std.proofs.Common.{◌≡◌, ℕ, ◌+◌, true, false, eqb, ltb, List, [], ◌∷◌, ◌++◌, length, Some, None, Ok, Err, decimal, Option, Result, sym, refl, ap, ◌∙◌, subst, ⊎_elim}
-use Rattle.std.specs.List.{AllByRecursion as All}
+use Rattle.std.specs.List.{AllByRecursion}
 use Rattle.std.proofs.lemmas.List.{append_assoc, append-nil, nil_from_length}
 use Rattle.std.proofs.lemmas.Bool.{cases_Bool, eqb-true, ne_eqb, le-ltb}
 use Rattle.faults.specs.declared.Fault.{Fault}
@@ -18,7 +18,7 @@ line_is : (w : Word) (n : ℕ) (rest : List ℕ) → line_written (w, n) ++ rest
 line_is w n rest = simp append_assoc
 
 -- the scan passes the bytes of a line, and reads the line at its end
-scan_over : (l : ℕ) (s : Content) (line bytes rest : List ℕ) → All (λ b. b ≡ 10 → ⊥) bytes
+scan_over : (l : ℕ) (s : Content) (line bytes rest : List ℕ) → AllByRecursion (λ b. b ≡ 10 → ⊥) bytes
     → scanned l s line (bytes ++ (10 ∷ rest)) ≡ go_on (line_read l (line ++ bytes) s) l (λ t. scanned (l + 1) t [] rest)
 scan_over l s line [] rest h = ap (λ x. go_on (line_read l x s) l (λ t. scanned (l + 1) t [] rest)) (sym (append-nil line))
 scan_over l s line (b ∷ bytes) rest h =

@@ -1,6 +1,6 @@
 -- How a list of lines is written as a text, and what the reading of a text has to do with it.
 use Rattle.std.specs.Prelude.{◌≡◌, ℕ, ◌+◌, ◌^◌, ◌<◌, ◌≤◌, List, [], ◌∷◌, ◌++◌, length, Some, Ok, decimal, Result}
-use Rattle.std.specs.List.{flat_map, AllByRecursion as All}
+use Rattle.std.specs.List.{flat_map, AllByRecursion}
 use Rattle.lines.specs.declared.Word.{Word}
 use Rattle.lines.specs.Lines.{spelling}
 use Rattle.text.specs.Listings.{Content, empty, entry_read}
@@ -16,7 +16,7 @@ written lines = flat_map line_written lines
 
 -- numbers have at most 10 digits
 abbrev pub Short : List (Word × ℕ) → Type 0
-Short lines = All (λ (e : Word × ℕ). e.1 < 10 ^ 10) lines
+Short lines = AllByRecursion (λ (e : Word × ℕ). e.1 < 10 ^ 10) lines
 
 -- the content after some lines, where s comes before them and the first of them is line l
 abbrev pub lines_read : ℕ → List (Word × ℕ) → Content → Result Content Stop
