@@ -10,9 +10,11 @@ use Rattle.faults.specs.declared.Refusal.TheVariants.{Capacity, Size, TooMany}
 use Rattle.faults.specs.Faults.{fault, outside, and_then}
 use Rattle.faults.proofs.Refusals.{no_answer, passed, within, and_then_parts}
 use Rattle.dual_feasible.specs.Laws.{InRange, greatest}
-use Rattle.pile_lines.specs.declared.Word.{Word}
-use Rattle.pile_lines.specs.declared.Word.TheVariants.{Bar, Cut, Row as RowWord}
-use Rattle.pile_lines.specs.Lines.{entry_of}
+use Rattle.listings.specs.Kinds.{kind_words}
+use Rattle.piles.specs.declared.rows.Kind.{Kind}
+use Rattle.lines.specs.declared.Word.{Word}
+use Rattle.lines.specs.declared.Word.TheVariants.{Bar, Cut, Row as RowWord}
+use Rattle.lines.specs.Lines.{entry_of}
 use Rattle.piles.specs.Kinds.{kind_number}
 use Rattle.piles.specs.Laying.{pile_made, laid, pile_of}
 use Rattle.piles.specs.declared.rows.Row.{Row}
@@ -46,7 +48,7 @@ new_pile n next y e =
     let same : ◌≡◌ {A = ℕ × List Row} (n, []) h.0 = let f = a.1 in cc in
     (within 1 greatest n a.0, ap next same ∙ h.2)
 
-word_kept : (l : ℕ) (b : Option ℕ) (w : Word) (n : ℕ) (s t : Content) → s.bar ≡ b → KeptBy b s.cuts s.rows → word_read l b w n s ≡ Ok t → KeptContent t
+word_kept : (l : ℕ) (b : Option ℕ) (w : Word Kind) (n : ℕ) (s t : Content) → s.bar ≡ b → KeptBy b s.cuts s.rows → word_read l b w n s ≡ Ok t → KeptContent t
 word_kept l None Bar n s t is kept e =
     let h = new_pile n _ t e in
     subst KeptContent (same_content _ t h.1)
@@ -74,7 +76,7 @@ word_kept l (Some c) (RowWord kind) n s t is kept e =
     let now : Kept c s.cuts h.0 = record { few = kept.few; sized = kept.sized; pile = pile_from c h.0 p.0 (laid_again c s.rows kind n h.0 p.1 h.1) } in
     subst KeptContent (same_content _ t h.2) (subst (λ (b : Option ℕ). KeptBy b s.cuts h.0) (sym is) now)
 
-entry_kept : (l : ℕ) (e : Option (Word × ℕ)) (s t : Content) → KeptContent s → entry_read l e s ≡ Ok t → KeptContent t
+entry_kept : (l : ℕ) (e : Option (Word Kind × ℕ)) (s t : Content) → KeptContent s → entry_read l e s ≡ Ok t → KeptContent t
 entry_kept l None s t kept p = absurd (no_answer _ t p)
 entry_kept l (Some e) s t kept p = word_kept l s.bar e.0 e.1 s t refl kept p
 
@@ -91,7 +93,7 @@ scan_kept l s line [] t kept e =
 scan_kept l s line (b ∷ bytes) t kept e =
     ⊎_elim
     (λ (p : eqb b 10 ≡ true).
-    go_kept (line_read l line s) l (λ u. scanned (l + 1) u [] bytes) t (λ u q. entry_kept l (entry_of line) s u kept q) (λ u k q. scan_kept (l + 1) u [] bytes t k q) (rw p at e))
+    go_kept (line_read l line s) l (λ u. scanned (l + 1) u [] bytes) t (λ u q. entry_kept l (entry_of kind_words line) s u kept q) (λ u k q. scan_kept (l + 1) u [] bytes t k q) (rw p at e))
     (λ (p : eqb b 10 ≡ false). scan_kept l s (line ++ b ∷ []) bytes t kept (rw p at e))
     (cases_Bool (eqb b 10))
 

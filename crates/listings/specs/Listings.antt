@@ -4,9 +4,10 @@ use Rattle.faults.specs.declared.Fault.{Fault}
 use Rattle.faults.specs.declared.Layer.TheVariants.{Text}
 use Rattle.faults.specs.declared.Refusal.TheVariants.{Size, TooMany, Malformed}
 use Rattle.faults.specs.Faults.{fault, refuse, outside, and_then}
-use Rattle.pile_lines.specs.declared.Word.{Word}
-use Rattle.pile_lines.specs.declared.Word.TheVariants.{Bar, Cut, Row as RowWord}
-use Rattle.pile_lines.specs.Lines.{entry_of}
+use Rattle.listings.specs.Kinds.{kind_words}
+use Rattle.lines.specs.declared.Word.{Word}
+use Rattle.lines.specs.declared.Word.TheVariants.{Bar, Cut, Row as RowWord}
+use Rattle.lines.specs.Lines.{entry_of}
 use Rattle.piles.specs.Contents.{pile_rows}
 use Rattle.piles.specs.Kinds.{kind_number}
 use Rattle.piles.specs.Laying.{pile_made, laid}
@@ -56,7 +57,7 @@ row_read c kind n s =
     and_then (laid c s.rows (kind_number kind) n) (λ rows. Ok (record { bar = s.bar; cuts = s.cuts; rows = rows }))
 
 -- a word and its number on line l: `bar` comes first and once only
-abbrev pub word_read : ℕ → Option ℕ → Word → ℕ → Content → Result Content Fault
+abbrev pub word_read : ℕ → Option ℕ → Word Kind → ℕ → Content → Result Content Fault
 word_read l None Bar n s = bar_read n s
 word_read l None Cut n s = Err (malformed l)
 word_read l None (RowWord kind) n s = Err (malformed l)
@@ -64,13 +65,13 @@ word_read l (Some c) Bar n s = Err (malformed l)
 word_read l (Some c) Cut n s = cut_read c n s
 word_read l (Some c) (RowWord kind) n s = row_read c kind n s
 
-abbrev pub entry_read : ℕ → Option (Word × ℕ) → Content → Result Content Fault
+abbrev pub entry_read : ℕ → Option (Word Kind × ℕ) → Content → Result Content Fault
 entry_read l None s = Err (malformed l)
 entry_read l (Some e) s = word_read l s.bar e.0 e.1 s
 
 -- line l
 abbrev pub line_read : ℕ → List ℕ → Content → Result Content Fault
-line_read l line s = entry_read l (entry_of line) s
+line_read l line s = entry_read l (entry_of kind_words line) s
 
 -- what a call that reads something leaves behind
 abbrev pub left : {X E : Type 0} → Result X E → Content → Result Content E

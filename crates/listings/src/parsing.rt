@@ -6,7 +6,7 @@ ghost use Rattle.listings.specs.Listings.{content, bar_of, empty, left, malforme
 use crate::listing::Listing;
 use dual_feasible::DualFeasible;
 use faults::{Fault, Layer, Refusal};
-use pile_lines::{Word, entry};
+use lines::{Word, entry};
 use piles::pile::Pile;
 use piles::rows::Kind;
 use std::alloc::{AllocError, Global};
@@ -89,7 +89,7 @@ impl Listing {
     }
 
     // A word and its number on line `at`.
-    fn read_entry(&mut self, at: u64, word: Word, number: u64) -> Result<(), Fault>
+    fn read_entry(&mut self, at: u64, word: Word<Kind>, number: u64) -> Result<(), Fault>
         ensures { left result (content self.new) ≡ word_read at (bar_of self.old.pile) word number (content self.old) }
     {
         match word {
@@ -103,7 +103,7 @@ impl Listing {
     pub fn read_line(&mut self, at: u64, line: &[u8]) -> Result<(), Fault>
         ensures { left result (content self.new) ≡ line_read at line.now (content self.old) }
     {
-        let Some((word, number)) = entry(line) else {
+        let Some((word, number)) = entry::<Listing>(line) else {
             return Err(malformed(at));
         };
         self.read_entry(at, word, number)

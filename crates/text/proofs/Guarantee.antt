@@ -16,8 +16,8 @@ use Rattle.bounds.specs.Sound.{bound_sound}
 use Rattle.functions.specs.Values.{identity}
 use Rattle.functions.specs.SuperadditiveValues.{threshold_lawful, rounding_lawful, division_lawful}
 use Rattle.functions.specs.CountingLaw.{counting_lawful}
-use Rattle.lines.specs.declared.Kind.{Kind}
-use Rattle.lines.specs.declared.Kind.TheVariants.{Threshold, Rounding, Division, Counting}
+use Rattle.text.specs.declared.kinds.Kind.{Kind}
+use Rattle.text.specs.declared.kinds.Kind.TheVariants.{Threshold, Rounding, Division, Counting}
 use Rattle.text.specs.Answers.{NoFewerBars}
 use Rattle.text.specs.Kept.{Kept}
 use Rattle.text.specs.Lower.{bound_of_row, greatest_of, lower_of}

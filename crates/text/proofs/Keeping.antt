@@ -8,6 +8,8 @@ use Rattle.faults.specs.declared.Layer.TheVariants.{Text}
 use Rattle.faults.specs.declared.Refusal.TheVariants.{Size, TooMany}
 use Rattle.faults.specs.Faults.{fault, refuse, outside}
 use Rattle.functions.specs.Made.{identity_made}
+use Rattle.text.specs.Kinds.{kind_words}
+use Rattle.text.specs.declared.kinds.Kind.{Kind}
 use Rattle.lines.specs.declared.Word.{Word}
 use Rattle.lines.specs.declared.Word.TheVariants.{Bar, Cut, Row as RowWord}
 use Rattle.lines.specs.Lines.{entry_of}
@@ -41,7 +43,7 @@ was_made (Err f) later y e = absurd (no_answer f y e)
 same_content : (s t : Content) → ◌≡◌ {A = Result Content Fault} (Ok s) (Ok t) → s ≡ t
 same_content s t e = cc
 
-word_kept : (l : ℕ) (b : Option ℕ) (w : Word) (n : ℕ) (s t : Content) → s.bar ≡ b → KeptBy b s.cuts s.rows → word_read l b w n s ≡ Ok t → KeptContent t
+word_kept : (l : ℕ) (b : Option ℕ) (w : Word Kind) (n : ℕ) (s t : Content) → s.bar ≡ b → KeptBy b s.cuts s.rows → word_read l b w n s ≡ Ok t → KeptContent t
 word_kept l None Bar n s t is kept e =
     let h = was_made (identity_made n) _ t e in
     subst KeptContent (same_content _ t h.1)
@@ -79,7 +81,7 @@ word_kept l (Some c) (RowWord kind) n s t is kept e =
       made = All-push (λ (r : Row). is_ok (row_made r.kind c r.parameter) ≡ true) s.rows row kept.made k.0;
     }))
 
-entry_kept : (l : ℕ) (e : Option (Word × ℕ)) (s t : Content) → KeptContent s → entry_read l e s ≡ Ok t → KeptContent t
+entry_kept : (l : ℕ) (e : Option (Word Kind × ℕ)) (s t : Content) → KeptContent s → entry_read l e s ≡ Ok t → KeptContent t
 entry_kept l None s t kept p = absurd (no_answer _ t p)
 entry_kept l (Some e) s t kept p = word_kept l s.bar e.0 e.1 s t refl kept p
 
@@ -96,7 +98,7 @@ scan_kept l s line [] t kept e =
 scan_kept l s line (b ∷ bytes) t kept e =
     ⊎_elim
     (λ (p : eqb b 10 ≡ true).
-    go_kept (line_read l line s) l (λ u. scanned (l + 1) u [] bytes) t (λ u q. entry_kept l (entry_of line) s u kept q) (λ u k q. scan_kept (l + 1) u [] bytes t k q) (rw p at e))
+    go_kept (line_read l line s) l (λ u. scanned (l + 1) u [] bytes) t (λ u q. entry_kept l (entry_of kind_words line) s u kept q) (λ u k q. scan_kept (l + 1) u [] bytes t k q) (rw p at e))
     (λ (p : eqb b 10 ≡ false). scan_kept l s (line ++ b ∷ []) bytes t kept (rw p at e))
     (cases_Bool (eqb b 10))
 

@@ -8,7 +8,7 @@ use Rattle.bounds.specs.Bounds.{asked, bound}
 use Rattle.bounds.proofs.Entries.{asked_number}
 use Rattle.functions.specs.Made.{identity_made}
 use Rattle.functions.specs.Values.{identity}
-use Rattle.lines.specs.declared.Kind.TheVariants.{Threshold}
+use Rattle.text.specs.declared.kinds.Kind.TheVariants.{Threshold}
 use Rattle.text.specs.Kept.{Kept}
 use Rattle.text.specs.Lower.{bound_of_row}
 use Rattle.text.specs.Rows.{row_made, when_made}

@@ -4,6 +4,8 @@ use Rattle.std.specs.List.{AllByRecursion}
 use Rattle.std.proofs.lemmas.List.{append_assoc, append-nil, nil_from_length}
 use Rattle.std.proofs.lemmas.Bool.{cases_Bool, eqb-true, ne_eqb, le-ltb}
 use Rattle.faults.specs.declared.Fault.{Fault}
+use Rattle.text.specs.Kinds.{kind_words, kinds_told}
+use Rattle.text.specs.declared.kinds.Kind.{Kind}
 use Rattle.lines.specs.declared.Word.{Word}
 use Rattle.lines.specs.Lines.{spelling, entry_of}
 use Rattle.lines.proofs.PutTogether.{entry_written, entry_reads, entry_one_line}
@@ -14,7 +16,7 @@ use Rattle.text.specs.declared.reading.Stop.{Stop}
 use Rattle.text.proofs.Keeping.{no_answer}
 
 -- a line is its entry's bytes, and then byte 10
-line_is : (w : Word) (n : ℕ) (rest : List ℕ) → line_written (w, n) ++ rest ≡ (spelling w ++ (32 ∷ decimal n)) ++ (10 ∷ rest)
+line_is : (w : Word Kind) (n : ℕ) (rest : List ℕ) → line_written (w, n) ++ rest ≡ (spelling kind_words w ++ (32 ∷ decimal n)) ++ (10 ∷ rest)
 line_is w n rest = simp append_assoc
 
 -- the scan passes the bytes of a line, and reads the line at its end
@@ -31,25 +33,25 @@ go_same (Ok s) l f g same = same s
 go_same (Err r) l f g same = refl
 
 -- the scan of written lines is the reading of the lines
-scan_written : (l : ℕ) (s : Content) (lines : List (Word × ℕ)) → Short lines → scanned l s [] (written lines) ≡ lines_read l lines s
+scan_written : (l : ℕ) (s : Content) (lines : List (Word Kind × ℕ)) → Short lines → scanned l s [] (written lines) ≡ lines_read l lines s
 scan_written l s [] h = refl
 scan_written l s (e ∷ lines) h =
     ap (scanned l s []) (line_is e.0 e.1 (written lines))
-    ∙ scan_over l s [] (spelling e.0 ++ (32 ∷ decimal e.1)) (written lines) (entry_one_line e.0 e.1 h.0)
-    ∙ ap (λ x. go_on (entry_read l x s) l (λ t. scanned (l + 1) t [] (written lines))) (entry_reads e.0 e.1 h.0)
+    ∙ scan_over l s [] (spelling kind_words e.0 ++ (32 ∷ decimal e.1)) (written lines) (entry_one_line kind_words kinds_told e.0 e.1 h.0)
+    ∙ ap (λ x. go_on (entry_read l x s) l (λ t. scanned (l + 1) t [] (written lines))) (entry_reads kind_words kinds_told e.0 e.1 h.0)
     ∙ go_same (entry_read l (Some e) s) l (λ t. scanned (l + 1) t [] (written lines)) (λ t. lines_read (l + 1) lines t) (λ t. scan_written (l + 1) t lines h.1)
 
 -- the lines of a text that is read to its end
 abbrev Lines : List ℕ → Type 0
-Lines text = (lines : List (Word × ℕ)) × Short lines × (text ≡ written lines)
+Lines text = (lines : List (Word Kind × ℕ)) × Short lines × (text ≡ written lines)
 
-one_more : (line bytes : List ℕ) (w : Word) (n : ℕ) → entry_of line ≡ Some (w, n) → Lines bytes → Lines (line ++ (10 ∷ bytes))
+one_more : (line bytes : List ℕ) (w : Word Kind) (n : ℕ) → entry_of kind_words line ≡ Some (w, n) → Lines bytes → Lines (line ++ (10 ∷ bytes))
 one_more line bytes w n e more =
-    let is = entry_written line w n e in
-    let same : line ++ (10 ∷ bytes) ≡ written ((w, n) ∷ more.0) = ap (λ x. x ++ (10 ∷ bytes)) is.0 ∙ ap (λ x. (spelling w ++ (32 ∷ decimal n)) ++ (10 ∷ x)) more.2 ∙ sym (line_is w n (written more.0)) in
+    let is = entry_written kind_words line w n e in
+    let same : line ++ (10 ∷ bytes) ≡ written ((w, n) ∷ more.0) = ap (λ x. x ++ (10 ∷ bytes)) is.0 ∙ ap (λ x. (spelling kind_words w ++ (32 ∷ decimal n)) ++ (10 ∷ x)) more.2 ∙ sym (line_is w n (written more.0)) in
     ((w, n) ∷ more.0, (is.1, more.1), same)
 
-entry_lines : (l : ℕ) (line bytes : List ℕ) (e : Option (Word × ℕ)) (s t : Content) → entry_of line ≡ e → entry_read l e s ≡ Ok t → Lines bytes → Lines (line ++ (10 ∷ bytes))
+entry_lines : (l : ℕ) (line bytes : List ℕ) (e : Option (Word Kind × ℕ)) (s t : Content) → entry_of kind_words line ≡ e → entry_read l e s ≡ Ok t → Lines bytes → Lines (line ++ (10 ∷ bytes))
 entry_lines l line bytes None s t is h more = absurd (no_answer _ t h)
 entry_lines l line bytes (Some e) s t is h more = one_more line bytes e.0 e.1 is more
 
@@ -68,7 +70,7 @@ scan_lines l s line (b ∷ bytes) t e =
     (λ (p : eqb b 10 ≡ true).
     let g = go_lines (line_read l line s) l (λ u. scanned (l + 1) u [] bytes) t (rw p at e) in
     let more = scan_lines (l + 1) g.0 [] bytes t g.2 in
-    subst (λ (x : ℕ). Lines (line ++ (x ∷ bytes))) (sym (eqb-true b 10 p)) (entry_lines l line bytes (entry_of line) s g.0 refl g.1 more))
+    subst (λ (x : ℕ). Lines (line ++ (x ∷ bytes))) (sym (eqb-true b 10 p)) (entry_lines l line bytes (entry_of kind_words line) s g.0 refl g.1 more))
     (λ (p : eqb b 10 ≡ false). subst Lines (append_assoc line (b ∷ []) bytes) (scan_lines l s (line ++ b ∷ []) bytes t (rw p at e)))
     (cases_Bool (eqb b 10))
 

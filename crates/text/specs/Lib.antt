@@ -1,3 +1,4 @@
+pub mod Kinds
 pub mod Rows
 pub mod Lower
 pub mod Listings

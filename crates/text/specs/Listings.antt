@@ -5,6 +5,8 @@ use Rattle.faults.specs.declared.Layer.TheVariants.{Text}
 use Rattle.faults.specs.declared.Refusal.TheVariants.{Size, TooMany, Malformed}
 use Rattle.faults.specs.Faults.{fault, refuse, outside}
 use Rattle.functions.specs.Made.{identity_made}
+use Rattle.text.specs.Kinds.{kind_words}
+use Rattle.text.specs.declared.kinds.Kind.{Kind}
 use Rattle.lines.specs.declared.Word.{Word}
 use Rattle.lines.specs.declared.Word.TheVariants.{Bar, Cut, Row as RowWord}
 use Rattle.lines.specs.Lines.{entry_of}
@@ -45,7 +47,7 @@ row_read c row s =
     (when_made (row_made row.kind c row.parameter) (Ok (record { bar = s.bar; cuts = s.cuts; rows = s.rows ++ row ∷ [] })))
 
 -- a word and its number on line l: `bar` comes first and once only
-abbrev pub word_read : ℕ → Option ℕ → Word → ℕ → Content → Result Content Fault
+abbrev pub word_read : ℕ → Option ℕ → Word Kind → ℕ → Content → Result Content Fault
 word_read l None Bar n s = bar_read n s
 word_read l None Cut n s = Err (malformed l)
 word_read l None (RowWord kind) n s = Err (malformed l)
@@ -53,13 +55,13 @@ word_read l (Some c) Bar n s = Err (malformed l)
 word_read l (Some c) Cut n s = cut_read c n s
 word_read l (Some c) (RowWord kind) n s = row_read c (record { kind = kind; parameter = n }) s
 
-abbrev pub entry_read : ℕ → Option (Word × ℕ) → Content → Result Content Fault
+abbrev pub entry_read : ℕ → Option (Word Kind × ℕ) → Content → Result Content Fault
 entry_read l None s = Err (malformed l)
 entry_read l (Some e) s = word_read l s.bar e.0 e.1 s
 
 -- line l
 abbrev pub line_read : ℕ → List ℕ → Content → Result Content Fault
-line_read l line s = entry_read l (entry_of line) s
+line_read l line s = entry_read l (entry_of kind_words line) s
 
 -- what a call that reads something leaves behind
 abbrev pub left : {X E : Type 0} → Result X E → Content → Result Content E

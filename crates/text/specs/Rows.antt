@@ -3,8 +3,8 @@ use Rattle.std.specs.Prelude.{ℕ, Ok, Err, Result}
 use Rattle.faults.specs.declared.Fault.{Fault}
 use Rattle.functions.specs.Made.{threshold_made, rounding_made, division_made, counting_made}
 use Rattle.functions.specs.Values.{threshold, rounding, division, counting, rounding_image, division_image, counting_image}
-use Rattle.lines.specs.declared.Kind.{Kind}
-use Rattle.lines.specs.declared.Kind.TheVariants.{Threshold, Rounding, Division, Counting}
+use Rattle.text.specs.declared.kinds.Kind.{Kind}
+use Rattle.text.specs.declared.kinds.Kind.TheVariants.{Threshold, Rounding, Division, Counting}
 
 -- what making it answers
 abbrev pub row_made : Kind → ℕ → ℕ → Result (ℕ × ℕ) Fault

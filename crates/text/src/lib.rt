@@ -11,6 +11,7 @@ use listing::Listing;
 use lower::lower_figure;
 use std::alloc::{AllocError, Global};
 
+mod kinds;
 mod listing;
 mod lower;
 mod parsing;

@@ -1,7 +1,7 @@
 // What a text says, as far as it is read.
 ghost use Rattle.std.specs.Prelude.{◌≤◌, vec_capacity};
 
-use lines::Kind;
+use crate::kinds::Kind;
 
 // A row names a function by its kind and its parameter.
 #[derive(Clone, Copy)]

@@ -7,6 +7,7 @@ ghost use Rattle.text.specs.Kept.{Kept};
 ghost use Rattle.text.specs.Lower.{bound_of_row, lower_of};
 ghost use Rattle.text.specs.Rows.{row_made, when_made};
 
+use crate::kinds::Kind;
 use crate::listing::Row;
 use bounds::lower_bound;
 use faults::Fault;
@@ -15,7 +16,6 @@ use functions::division::Division;
 use functions::identity::Identity;
 use functions::rounding::Rounding;
 use functions::threshold::Threshold;
-use lines::Kind;
 
 // The identity's bound of the cuts.
 fn identity_bound(capacity: u64, cuts: &[u64]) -> Result<u64, Fault>

@@ -4,6 +4,7 @@ ghost use Rattle.faults.specs.Faults.{fault};
 ghost use Rattle.text.specs.Listings.{content, empty, left, bar_read, cut_read, row_read, word_read, line_read};
 ghost use Rattle.text.specs.Rows.{row_made, checked};
 
+use crate::kinds::Kind;
 use crate::listing::{Listing, Row};
 use faults::{Fault, Layer, Refusal};
 use functions::counting::Counting;
@@ -11,7 +12,7 @@ use functions::division::Division;
 use functions::identity::Identity;
 use functions::rounding::Rounding;
 use functions::threshold::Threshold;
-use lines::{Kind, Word, entry};
+use lines::{Word, entry};
 use std::alloc::{AllocError, Global};
 
 const MOST_CUTS: usize = 64;
@@ -100,7 +101,7 @@ impl Listing {
     }
 
     // A word and its number on line `at`: `bar` comes first and once only.
-    fn read_entry(&mut self, at: u64, word: Word, number: u64) -> Result<(), Fault>
+    fn read_entry(&mut self, at: u64, word: Word<Kind>, number: u64) -> Result<(), Fault>
         ensures { left result (content self.new) ≡ word_read at self.old.bar word number (content self.old) }
     {
         match (self.bar, word) {
@@ -124,7 +125,7 @@ impl Listing {
     pub fn read_line(&mut self, at: u64, line: &[u8]) -> Result<(), Fault>
         ensures { left result (content self.new) ≡ line_read at line.now (content self.old) }
     {
-        let Some((word, number)) = entry(line) else {
+        let Some((word, number)) = entry::<Listing>(line) else {
             return Err(declined(Refusal::Malformed, at));
         };
         self.read_entry(at, word, number)

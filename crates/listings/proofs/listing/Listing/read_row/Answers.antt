@@ -1,7 +1,7 @@
 use Rattle.std.proofs.Common.{◌≡◌, ℕ, List, Some, Ok, Err, vec_items, Option, Result, sym, ap, ◌∙◌}
 use Rattle.faults.specs.declared.Fault.{Fault}
 use Rattle.faults.specs.Faults.{outcome}
-use Rattle.pile_lines.specs.declared.Word.TheVariants.{Row as RowWord}
+use Rattle.lines.specs.declared.Word.TheVariants.{Row as RowWord}
 use Rattle.piles.specs.Contents.{pile_rows}
 use Rattle.piles.specs.Kinds.{kind_number}
 use Rattle.faults.specs.Faults.{and_then, kept_or}
