@@ -11,12 +11,8 @@ pub const GREATEST: u64 = 1_000_000_000;
 pub fn check_capacity(layer: Layer, capacity: u64) -> Result<(), Fault>
     ensures { result ≡ capacity_check layer capacity (Ok tt) }
 {
-    if capacity < 1 || capacity > GREATEST {
-        return Err(Fault {
-            refusal: Refusal::Capacity,
-            layer,
-            figure: capacity,
-        });
+    if !(1..=GREATEST).contains(&capacity) {
+        return Err(Fault::new(Refusal::Capacity, layer, capacity));
     }
     Ok(())
 }
@@ -26,11 +22,7 @@ pub fn check_size(capacity: u64, size: u64) -> Result<(), Fault>
     ensures { result ≡ size_check capacity size (Ok tt) }
 {
     if size > capacity {
-        return Err(Fault {
-            refusal: Refusal::Size,
-            layer: Layer::Function,
-            figure: size,
-        });
+        return Err(Fault::new(Refusal::Size, Layer::Function, size));
     }
     Ok(())
 }

@@ -5,7 +5,7 @@ ghost use Rattle.dual_feasible.specs.Laws.{InRange};
 ghost use Rattle.faults.specs.Faults.{outcome};
 ghost use Rattle.foreign.specs.AboveHalf.{above_half};
 ghost use Rattle.foreign.specs.AboveHalfSound.{above_half_sound};
-ghost use Rattle.std.proofs.Common.{rules, arith};
+ghost use Rattle.std.proofs.Common.{rules};
 
 use bounds::Bounder;
 use bounds::checks::check_list;
@@ -33,7 +33,7 @@ impl Bounder for Halves {
 
     ghost number = { λ b. above_half b.capacity };
 
-    ghost limits = { first_of (Prim.search rules, Prim.grind (arith, Self.row.coded.inj)) };
+    ghost limits = { Prim.search rules };
 
     ghost sound = { λ b. above_half_sound b.capacity };
 
