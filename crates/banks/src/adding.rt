@@ -6,7 +6,6 @@ ghost use Rattle.banks.specs.Banks.{bank_made, pile_added};
 ghost use Rattle.banks.specs.Contents.{bank_piles};
 
 use crate::bank::Bank;
-use bounds::checks::declined;
 use dual_feasible::DualFeasible;
 use dual_feasible::checks::check_capacity;
 use faults::{Fault, Layer, Refusal};
@@ -38,10 +37,10 @@ impl Bank {
     {
         let (capacity, _) = pile.capacities();
         if capacity != self.capacity {
-            return Err(declined(Refusal::CapacitiesDiffer, capacity));
+            return Err(Fault::new(Refusal::CapacitiesDiffer, Layer::Bound, capacity));
         }
         if self.count >= MOST_PILES {
-            return Err(declined(Refusal::TooMany, 8));
+            return Err(Fault::new(Refusal::TooMany, Layer::Bound, 8));
         }
         self.piles[self.count] = pile.rows();
         self.count += 1;
