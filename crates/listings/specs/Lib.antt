@@ -1,4 +1,6 @@
-pub mod Kinds
+pub mod Laying
+pub mod Kept
 pub mod Listings
 pub mod Texts
 pub mod Written
+pub mod Answers

@@ -1,4 +1,4 @@
--- The four kinds of rows that each name a function.
+-- The words of the rows that each name a function.
 use Rattle.std.specs.Prelude.{ℕ, List, [], ◌∷◌, codes, refl}
 use Rattle.lines.specs.Words.{Words}
 use Rattle.lines.specs.Told.{AreWords}

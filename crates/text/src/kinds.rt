@@ -1,8 +1,4 @@
-// The words of the rows that each name a function.
-ghost use Rattle.text.specs.Kinds.{kind_words, kinds_told};
-
-use crate::listing::Listing;
-use lines::words::RowWords;
+// The kinds of rows that each name a function.
 
 // The function that a row names.
 #[derive(Clone, Copy, PartialEq, Eq, Debug)]
@@ -13,20 +9,9 @@ pub enum Kind {
     Counting,
 }
 
-impl RowWords for Listing {
-    type Kind = Kind;
-
-    ghost words = { kind_words };
-
-    ghost told = { kinds_told };
-
-    fn named(text: &[u8]) -> Option<Kind> {
-        match text {
-            b"threshold" => Some(Kind::Threshold),
-            b"rounding" => Some(Kind::Rounding),
-            b"division" => Some(Kind::Division),
-            b"counting" => Some(Kind::Counting),
-            _ => None,
-        }
-    }
+// A row names a function by its kind and its parameter.
+#[derive(Clone, Copy, PartialEq, Eq, Debug)]
+pub struct Row {
+    pub kind: Kind,
+    pub parameter: u64,
 }
