@@ -1,15 +1,11 @@
 // Rows that are laid on a pile.
 ghost use Rattle.piles.specs.Contents.{pile_rows};
-ghost use Rattle.pile_text.specs.Guarantee.{no_fewer_bars};
 ghost use Rattle.pile_text.specs.Kinds.{kind_words, kinds_told};
 ghost use Rattle.pile_text.specs.Laid.{pile_laying};
-ghost use Rattle.pile_text.specs.Lower.{lower_of};
 
-use crate::lower::lower_figure;
 use dual_feasible::DualFeasible;
 use faults::Fault;
 use lines::words::RowWords;
-use listings::printing::Bounding;
 use listings::rows::Rows;
 use piles::pile::Pile;
 use piles::rows::{Kind, Row};
@@ -17,7 +13,7 @@ use piles::rows::{Kind, Row};
 // The pile of a text's rows, as a type of this crate.
 #[derive(Drop)]
 pub struct LaidRows {
-    pile: Pile,
+    pub pile: Pile,
 }
 
 impl RowWords for LaidRows {
@@ -59,15 +55,5 @@ impl Rows for LaidRows {
 
     fn add(&mut self, kind: Kind, parameter: u64) -> Result<(), Fault> {
         self.pile.lay(kind.number(), parameter)
-    }
-}
-
-impl Bounding for LaidRows {
-    ghost figure = { lower_of };
-
-    ghost sound = { no_fewer_bars };
-
-    fn lower_figure(&self, cuts: &[u64]) -> Result<u64, Fault> {
-        lower_figure(&self.pile, cuts)
     }
 }

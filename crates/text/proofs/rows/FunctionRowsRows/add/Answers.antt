@@ -12,7 +12,7 @@ pub returns-in_err-new-clause-answer : goal.returns-in_err-new-clause-answer
 returns-in_err-new-clause-answer c =
     let q = err_from_is_err_and c.from_residual.result c.from_residual.ensures.1 in
     let rows = map function_row c.args.self.now.functions.items in
-    let few : leb 8 (length rows) ≡ false = lt-leb 8 (length rows) (omega (arith, c.if-len-ge-MOST_ROWS.false, c.len.ensures.value, length-map c.args.self.now.functions.items function_row)) in
+    let few : leb 8 (length rows) ≡ false = lt-leb 8 (length rows) (omega (arith, length-map c.args.self.now.functions.items function_row)) in
     rw (q.1, q.2, few) (ap checked (then_refused (row_made c.args.kind c.args.self.now.capacity c.args.parameter) c.in_err-new.field-0.0 _ _ c.in_err-new.ensures))
 
 pub invariant_of-self-2 : goal.invariant_of-self-2
