@@ -50,21 +50,6 @@ module _ {Kind Row : Type 0} (words : Words Kind) (laying : Laying Kind Row) (l 
       let lt = ltb-true k (length rest) found.0 in
       (omega (arith, found.1), to_end [] rest lt ∙ ap (λ i. go_on (line_read words laying l (take i rest) s) l (λ t. scanned words laying (l + 1) t [] (drop (i + 1) rest))) found.1)
 
-  -- what comes after a line is shorter
-  pub rest_shorter : (rest : List ℕ) (end : ℕ) → Some end ≡ position ends_line rest → length (take (length rest - (end + 1)) (drop (end + 1) rest)) < length rest
-  rest_shorter rest end e = omega (arith, ap length (take_rest rest (end + 1)), length-drop (end + 1) rest, (line_ended rest end (sym e)).0)
-
-  -- the first line is accepted
-  pub line_accepted : (rest : List ℕ) (end : ℕ) (t : Content Row) → Some end ≡ position ends_line rest → Ok t ≡ line_read words laying l (take end rest) s
-      → scanned words laying l s [] rest ≡ scanned words laying (l + 1) t [] (take (length rest - (end + 1)) (drop (end + 1) rest))
-  line_accepted rest end t e h =
-      (line_ended rest end (sym e)).1 ∙ ap (λ r. go_on r l (λ u. scanned words laying (l + 1) u [] (drop (end + 1) rest))) (sym h) ∙ ap (scanned words laying (l + 1) t []) (sym (take_rest rest (end + 1)))
-
-  -- the first line is refused
-  pub line_refused : (rest : List ℕ) (end : ℕ) (f : Fault) → Some end ≡ position ends_line rest → Err f ≡ line_read words laying l (take end rest) s → scanned words laying l s [] rest ≡ Err (stop f l)
-  line_refused rest end f e h = (line_ended rest end (sym e)).1 ∙ ap (λ r. go_on r l (λ u. scanned words laying (l + 1) u [] (drop (end + 1) rest))) (sym h)
-
-  -- a text with no end of a line
   no_line_ended : (rest : List ℕ) → position ends_line rest ≡ None → scanned words laying l s [] rest ≡ cond (eqb (length rest) 0) (Ok s) (Err (malformed_at_line l))
   no_line_ended rest e =
       let k = position_or_len ends_line rest in
@@ -73,10 +58,23 @@ module _ {Kind Row : Type 0} (words : Words Kind) (laying : Laying Kind Row) (l 
       (λ (p : ltb k (length rest) ≡ false). to_last [] rest (ltb-false k (length rest) p))
       (cases_Bool (ltb k (length rest)))
 
-  -- the end of the text within a line
-  pub line_broken : (rest : List ℕ) → None ≡ position ends_line rest → false ≡ eqb (length rest) 0 → scanned words laying l s [] rest ≡ Err (malformed_at_line l)
-  line_broken rest e some = no_line_ended rest (sym e) ∙ ap (λ b. cond b (Ok s) (Err (malformed_at_line l))) (sym some)
+  -- what is left of a text, where a line ends
+  module _ (rest : List ℕ) (end : ℕ) (ends : Some end ≡ position ends_line rest) where
+    -- after the line there is less
+    pub rest_shorter : length (take (length rest - (end + 1)) (drop (end + 1) rest)) < length rest
+    rest_shorter = omega (arith, ap length (take_rest rest (end + 1)), length-drop (end + 1) rest, (line_ended rest end (sym ends)).0)
 
-  -- the end of the text, right after a line
-  pub line_complete : (rest : List ℕ) → None ≡ position ends_line rest → true ≡ eqb (length rest) 0 → scanned words laying l s [] rest ≡ Ok s
-  line_complete rest e none = no_line_ended rest (sym e) ∙ ap (λ b. cond b (Ok s) (Err (malformed_at_line l))) (sym none)
+    -- the line is accepted
+    pub line_accepted : (t : Content Row) → Ok t ≡ line_read words laying l (take end rest) s
+        → scanned words laying (l + 1) t [] (take (length rest - (end + 1)) (drop (end + 1) rest)) ≡ scanned words laying l s [] rest
+    line_accepted t h =
+        ap (scanned words laying (l + 1) t []) (take_rest rest (end + 1))
+        ∙ sym ((line_ended rest end (sym ends)).1 ∙ ap (λ r. go_on r l (λ u. scanned words laying (l + 1) u [] (drop (end + 1) rest))) (sym h))
+
+    -- the line is refused
+    pub line_refused : (f : Fault) → Err f ≡ line_read words laying l (take end rest) s → Err (stop f l) ≡ scanned words laying l s [] rest
+    line_refused f h = sym ((line_ended rest end (sym ends)).1 ∙ ap (λ r. go_on r l (λ u. scanned words laying (l + 1) u [] (drop (end + 1) rest))) (sym h))
+
+  -- the text ends within a line
+  pub line_broken : (rest : List ℕ) → None ≡ position ends_line rest → false ≡ eqb (length rest) 0 → Err (malformed_at_line l) ≡ scanned words laying l s [] rest
+  line_broken rest e some = sym (no_line_ended rest (sym e) ∙ ap (λ b. cond b (Ok s) (Err (malformed_at_line l))) (sym some))

@@ -1,4 +1,4 @@
-use Rattle.std.proofs.Common.{Err, sym, ap, ◌∙◌, arith}
+use Rattle.std.proofs.Common.{Err, ap, ◌∙◌, arith}
 use Rattle.listings.specs.Listings.{content}
 use Rattle.listings.proofs.Scanning.{rest_shorter, line_accepted, line_refused, line_broken}
 use Rattle.listings.proofs.listing.Listing.scan.Goals as goal
@@ -6,13 +6,15 @@ use Rattle.listings.proofs.listing.Listing.scan.Goals as goal
 pub returns-in-Err : goal.returns-in-Err
 returns-in-Err g c =
     let r = g.R.Rows in
-    sym (sym c.loop-end.invariant.1 ∙ line_refused g.R.RowWords.words r.laying c.loop-end.line (content r.seen c.loop-end.self) c.loop-end.rest.now c.in-Some.end c.in-Err.fault c.in-Some.ensures c.in-Err.ensures)
+    line_refused g.R.RowWords.words r.laying c.loop-end.line (content r.seen c.loop-end.self) c.loop-end.rest.now c.in-Some.end c.in-Some.ensures c.in-Err.fault c.in-Err.ensures
+    ∙ c.loop-end.invariant.1
 
 pub loop-end-preserved : goal.loop-end-preserved
 loop-end-preserved g c =
-    let r = g.R.Rows in (
-      omega (arith, c.loop-end.invariant.0, rest_shorter g.R.RowWords.words r.laying c.loop-end.line (content r.seen c.loop-end.self) c.loop-end.rest.now c.in-Some.end c.in-Some.ensures),
-      sym (line_accepted g.R.RowWords.words r.laying c.loop-end.line (content r.seen c.loop-end.self) c.loop-end.rest.now c.in-Some.end (content r.seen c.read_line.new.self) c.in-Some.ensures c.in_default-read_line.ensures)
+    let r = g.R.Rows in
+    let s = content r.seen c.loop-end.self in (
+      omega (arith, c.loop-end.invariant.0, rest_shorter g.R.RowWords.words r.laying c.loop-end.line s c.loop-end.rest.now c.in-Some.end c.in-Some.ensures),
+      line_accepted g.R.RowWords.words r.laying c.loop-end.line s c.loop-end.rest.now c.in-Some.end c.in-Some.ensures (content r.seen c.read_line.new.self) c.in_default-read_line.ensures
           ∙ c.loop-end.invariant.1,
     )
 
@@ -20,4 +22,5 @@ pub returns-then-not-is_empty : goal.returns-then-not-is_empty
 returns-then-not-is_empty g c =
     let r = g.R.Rows in
     ap Err c.malformed_at.ensures
-    ∙ sym (sym c.loop-end.invariant.1 ∙ line_broken g.R.RowWords.words r.laying c.loop-end.line (content r.seen c.loop-end.self) c.loop-end.rest.now c.in_default.ensures c.if-not-is_empty.ensures)
+    ∙ line_broken g.R.RowWords.words r.laying c.loop-end.line (content r.seen c.loop-end.self) c.loop-end.rest.now c.in_default.ensures c.if-not-is_empty.ensures
+    ∙ c.loop-end.invariant.1
