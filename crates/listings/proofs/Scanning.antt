@@ -1,14 +1,16 @@
 -- One line of a text that is scanned.
-use Rattle.std.proofs.Common.{◌≡◌, ℕ, suc, ◌+◌, ◌-◌, ◌<◌, ◌≤◌, true, false, cond, eqb, ltb, List, [], ◌∷◌, ◌++◌, length, take, drop, Some, None, Ok, Err, sym, ap, ◌∙◌, ⊎_elim, one-add, arith, length-drop}
+use Rattle.std.proofs.Common.{◌≡◌, ℕ, suc, ◌+◌, ◌-◌, ◌<◌, ◌≤◌, true, false, cond, eqb, ltb, List, [], ◌∷◌, ◌++◌, length, take, drop, Some, None, Ok, Err, Result, sym, ap, ◌∙◌, ⊎_elim, one-add, arith, length-drop}
 use Rattle.std.specs.List.{position, position_or_len}
 use Rattle.std.proofs.lemmas.Bool.{cases_Bool, ltb-true, ltb-false}
 use Rattle.std.proofs.lemmas.List.{append_assoc, append-nil, take_rest}
 use Rattle.std.proofs.lemmas.Option.{cond_some}
 use Rattle.faults.specs.declared.Fault.{Fault}
+use Rattle.faults.proofs.Refusals.{no_answer}
 use Rattle.lines.specs.Words.{Words}
 use Rattle.listings.specs.Laying.{Laying}
-use Rattle.listings.specs.Listings.{Content, line_read}
-use Rattle.listings.specs.Texts.{stop, go_on, malformed_at_line, ends_line, scanned}
+use Rattle.listings.specs.declared.reading.Stop.{Stop}
+use Rattle.listings.specs.Listings.{Content, line_read, left}
+use Rattle.listings.specs.Texts.{stop, stopped, go_on, malformed_at_line, ends_line, scanned}
 
 module _ {Kind Row : Type 0} (words : Words Kind) (laying : Laying Kind Row) (l : ℕ) (s : Content Row) where
   -- the scan passes the bytes of a line, and reads the line at its end
@@ -65,15 +67,20 @@ module _ {Kind Row : Type 0} (words : Words Kind) (laying : Laying Kind Row) (l 
     rest_shorter = omega (arith, ap length (take_rest rest (end + 1)), length-drop (end + 1) rest, (line_ended rest end (sym ends)).0)
 
     -- the line is accepted
-    pub line_accepted : (t : Content Row) → Ok t ≡ line_read words laying l (take end rest) s
+    pub line_accepted : (answer : Result Unit Fault) (t : Content Row) (x : Unit) → Ok x ≡ stopped l answer → left answer t ≡ line_read words laying l (take end rest) s
         → scanned words laying (l + 1) t [] (take (length rest - (end + 1)) (drop (end + 1) rest)) ≡ scanned words laying l s [] rest
-    line_accepted t h =
+    line_accepted (Ok y) t x e h =
         ap (scanned words laying (l + 1) t []) (take_rest rest (end + 1))
         ∙ sym ((line_ended rest end (sym ends)).1 ∙ ap (λ r. go_on r l (λ u. scanned words laying (l + 1) u [] (drop (end + 1) rest))) (sym h))
+    line_accepted (Err f) t x e h = absurd (no_answer (stop f l) x (sym e))
 
     -- the line is refused
-    pub line_refused : (f : Fault) → Err f ≡ line_read words laying l (take end rest) s → Err (stop f l) ≡ scanned words laying l s [] rest
-    line_refused f h = sym ((line_ended rest end (sym ends)).1 ∙ ap (λ r. go_on r l (λ u. scanned words laying (l + 1) u [] (drop (end + 1) rest))) (sym h))
+    pub line_refused : (answer : Result Unit Fault) (t : Content Row) (f : Stop) → Err f ≡ stopped l answer → left answer t ≡ line_read words laying l (take end rest) s → Err f ≡ scanned words laying l s [] rest
+    line_refused (Ok y) t f e h = absurd (no_answer f y e)
+    line_refused (Err g) t f e h =
+        let whole : scanned words laying l s [] rest ≡ Err (stop g l) = (line_ended rest end (sym ends)).1 ∙ ap (λ r. go_on r l (λ u. scanned words laying (l + 1) u [] (drop (end + 1) rest))) (sym h) in
+        let same : f ≡ stop g l = cc in
+        ap Err same ∙ sym whole
 
   -- the text ends within a line
   pub line_broken : (rest : List ℕ) → None ≡ position ends_line rest → false ≡ eqb (length rest) 0 → Err (malformed_at_line l) ≡ scanned words laying l s [] rest

@@ -13,6 +13,11 @@ stop f l = record { fault = f; line = l }
 abbrev pub malformed_at_line : ℕ → Stop
 malformed_at_line l = stop (malformed l) l
 
+-- an answer of line l, with the line where it is refused
+abbrev pub stopped : {X : Type 0} → ℕ → Result X Fault → Result X Stop
+stopped l (Ok x) = Ok x
+stopped l (Err f) = Err (stop f l)
+
 -- the content after line l, unless that line is refused
 abbrev pub go_on : {Row : Type 0} → Result (Content Row) Fault → ℕ → (Content Row → Result (Content Row) Stop) → Result (Content Row) Stop
 go_on (Ok s) l next = next s

@@ -2,7 +2,7 @@
 ghost use Rattle.std.specs.Prelude.{◌≡◌, []};
 ghost use Rattle.std.specs.List.{position};
 ghost use Rattle.listings.specs.Listings.{content, left};
-ghost use Rattle.listings.specs.Texts.{malformed_at_line, ends_line, scanned, listed, list_from};
+ghost use Rattle.listings.specs.Texts.{malformed_at_line, stopped, ends_line, scanned, listed, list_from};
 
 use crate::listing::Listing;
 use crate::parsing::malformed;
@@ -29,6 +29,13 @@ fn malformed_at(line: u64) -> Stop
     }
 }
 
+// What a line answers, with its number where it is refused.
+fn stopped_at(line: u64, answer: Result<(), Fault>) -> Result<(), Stop>
+    ensures { result ≡ stopped line answer }
+{
+    answer.map_err(|fault| Stop { fault, line })
+}
+
 // The place of the first byte that ends a line.
 fn line_end(text: &[u8]) -> Option<usize>
     ensures { result ≡ position ends_line text.now }
@@ -45,9 +52,7 @@ impl<R: Rows> Listing<R> {
         let mut rest = text;
         let mut line = 1;
         while let Some(end) = line_end(rest) {
-            if let Err(fault) = self.read_line(line, &rest[..end]) {
-                return Err(Stop { fault, line });
-            }
+            stopped_at(line, self.read_line(line, &rest[..end]))?;
             rest = &rest[end + 1..];
             line += 1;
         }
