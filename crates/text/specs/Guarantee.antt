@@ -1,7 +1,7 @@
 -- No plan of a list has fewer bars than its lower figure says.
-use Rattle.std.specs.Prelude.{◌≡◌, ℕ, ◌*◌, ◌≤◌, max, List, [], ◌∷◌, ◌++◌, length, Ok, Err, Result, nat_lt, nat_le, refl}
+use Rattle.std.specs.Prelude.{◌≡◌, ℕ, ◌*◌, ◌≤◌, max, List, [], ◌∷◌, ◌++◌, length, true, is_ok, Ok, Err, Result, nat_lt, nat_le, refl}
 use Rattle.std.proofs.Math.Nat.{one-le-mul}
-use Rattle.std.proofs.Common.{one-mul, subst, arith}
+use Rattle.std.proofs.Common.{one-mul, ap, subst, arith}
 use Rattle.std.specs.List.{AllByRecursion}
 use Rattle.std.proofs.ByRecursion.{All-push}
 use Rattle.std.proofs.lemmas.Nat.{le-div}
@@ -10,7 +10,7 @@ use Rattle.faults.specs.declared.Fault.{Fault}
 use Rattle.faults.specs.declared.Layer.TheVariants.{Function, Text}
 use Rattle.faults.specs.declared.Refusal.TheVariants.{Capacity, Parameter, TooMany}
 use Rattle.faults.specs.Faults.{fault, outside}
-use Rattle.faults.proofs.Refusals.{passed, within, same_answer, and_then_parts}
+use Rattle.faults.proofs.Refusals.{passed, within, same_answer, and_then_parts, ok_made}
 use Rattle.plans.specs.Plans.{AtLeast}
 use Rattle.dual_feasible.specs.Answers.{capacity_check}
 use Rattle.dual_feasible.specs.Laws.{Lawful, InRange, greatest}
@@ -25,6 +25,7 @@ use Rattle.listings.specs.Kept.{Kept, Keeps}
 use Rattle.listings.specs.Texts.{CuttingList}
 use Rattle.listings.specs.declared.reading.Stop.{Stop}
 use Rattle.listings.proofs.Keeping.{list_kept}
+use Rattle.text.specs.Kept.{Makes}
 use Rattle.text.specs.Kinds.{kind_words}
 use Rattle.text.specs.Lower.{bound_of_row, greatest_of, lower_of}
 use Rattle.text.specs.Rows.{row_made, row_image, row_value}
@@ -32,11 +33,6 @@ use Rattle.text.specs.Texts.{bar_begun, row_added, function_laying, list_of}
 use Rattle.text.specs.declared.kinds.Kind.{Kind}
 use Rattle.text.specs.declared.kinds.Kind.TheVariants.{Threshold, Rounding, Division, Counting}
 use Rattle.text.specs.declared.kinds.Row.{Row}
-
--- the capacity is in its range, and each row's function is lawful
-record Makes (c : ℕ) (rows : List Row) : Type 0 where
-  range : InRange c
-  lawful : AllByRecursion (λ row. Lawful c (row_image row.kind c row.parameter) (row_value row.kind c row.parameter) × (1 ≤ row_image row.kind c row.parameter)) rows
 
 -- a function that can be made has a capacity in its range
 in_range : {X : Type 0} (c : ℕ) (later : Result X Fault) (x : X) → capacity_check Function c later ≡ Ok x → InRange c × (later ≡ Ok x)
@@ -68,9 +64,9 @@ row_lawful Counting c p made e =
 bar_makes : (n : ℕ) (p : ℕ × List Row) → bar_begun n ≡ Ok p → Makes p.0 p.1
 bar_makes n p e =
     let h = and_then_parts (identity_made n) (λ c. Ok (c, [])) p e in
-    let r = in_range n (Ok n) h.0 h.1 in
-    let same = same_answer {E = Fault} n h.0 r.1 in
-    subst (λ (q : ℕ × List Row). Makes q.0 q.1) (same_answer {E = Fault} (h.0, []) p h.2) (record { range = subst InRange same r.0; lawful = tt })
+    let same = same_answer {E = Fault} n h.0 (in_range n (Ok n) h.0 h.1).1 in
+    let new : Makes n [] = record { bar = ap is_ok h.1; made = tt } in
+    subst (λ (q : ℕ × List Row). Makes q.0 q.1) (same_answer {E = Fault} (h.0, []) p h.2) (subst (λ (c : ℕ). Makes c []) same new)
 
 row_makes : (c : ℕ) (rows : List Row) (kind : Kind) (n : ℕ) (next : List Row) → Makes c rows → row_added c rows kind n ≡ Ok next → Makes c next
 row_makes c rows kind n next makes e =
@@ -79,26 +75,26 @@ row_makes c rows kind n next makes e =
     let k = and_then_parts (row_made kind c n) _ next h.1 in
     subst (Makes c) (same_answer {E = Fault} (rows ++ row ∷ []) next k.2)
     (record {
-      range = makes.range;
-      lawful =
-          All-push (λ (r : Row). Lawful c (row_image r.kind c r.parameter) (row_value r.kind c r.parameter) × (1 ≤ row_image r.kind c r.parameter)) rows row makes.lawful
-          (row_lawful kind c n k.0 k.1);
+      bar = makes.bar;
+      made = All-push (λ (r : Row). is_ok (row_made r.kind c r.parameter) ≡ true) rows row makes.made (ap is_ok k.1);
     })
 
-greatest_sound : (c : ℕ) (cuts : List ℕ) (n : ℕ) (rows : List Row) → AtLeast c cuts n
-    → AllByRecursion (λ row. Lawful c (row_image row.kind c row.parameter) (row_value row.kind c row.parameter) × (1 ≤ row_image row.kind c row.parameter)) rows
+greatest_sound : (c : ℕ) (cuts : List ℕ) (n : ℕ) (rows : List Row) → AtLeast c cuts n → AllByRecursion (λ row. is_ok (row_made row.kind c row.parameter) ≡ true) rows
     → AtLeast c cuts (greatest_of c cuts n rows)
-greatest_sound c cuts n [] least lawful = least
-greatest_sound c cuts n (row ∷ rows) least lawful =
-    let l = lawful.0 in
+greatest_sound c cuts n [] least made = least
+greatest_sound c cuts n (row ∷ rows) least made =
+    let m = ok_made (row_made row.kind c row.parameter) made.0 in
+    let l = row_lawful row.kind c row.parameter m.0 m.1 in
     let new : AtLeast c cuts (bound_of_row c cuts row) = bound_sound c (row_image row.kind c row.parameter) (row_value row.kind c row.parameter) l.1 l.0 cuts in
     greatest_sound c cuts (max n (bound_of_row c cuts row)) rows
     (λ m plan packs. let p = least m plan packs in let q = new m plan packs in omega arith)
-    lawful.1
+    made.1
 
 lower_sound : (c : ℕ) (cuts : List ℕ) (rows : List Row) → Kept Makes c cuts rows → AtLeast c cuts (lower_of c cuts rows)
 lower_sound c cuts rows kept =
-    greatest_sound c cuts (bound c identity cuts) rows (bound_sound c c identity kept.ruled.range.0 (λ sizes h. h) cuts) kept.ruled.lawful
+    let m = ok_made (identity_made c) kept.ruled.bar in
+    let r = in_range c (Ok c) m.0 m.1 in
+    greatest_sound c cuts (bound c identity cuts) rows (bound_sound c c identity r.0.0 (λ sizes h. h) cuts) kept.ruled.made
 
 told : (r : Result (CuttingList Row) Stop) → ((l : CuttingList Row) → r ≡ Ok l → Kept Makes l.capacity l.cuts l.rows) → NoFewerBars lower_of r
 told (Ok l) kept = lower_sound l.capacity l.cuts l.rows (kept l refl)

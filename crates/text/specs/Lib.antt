@@ -3,5 +3,6 @@ pub mod Rows
 pub mod Lower
 pub mod Functions
 pub mod FunctionsLaw
+pub mod Kept
 pub mod Texts
 pub mod Guarantee
