@@ -41,8 +41,8 @@ module _ (c : ℕ) (rows : List Row) (number p : ℕ) where
   pub ninth_refused : most_rows ≤ length rows → laid c rows number p ≡ Err (fault TooMany Pile most_rows)
   ninth_refused h = rw (le-leb most_rows (length rows) h)
 
-  pub kind_unknown : length rows < most_rows → None ≡ kind_of number → laid c rows number p ≡ Err (fault Parameter Pile (length rows))
-  kind_unknown h e = rw (lt-leb most_rows (length rows) h, sym e)
+  pub kind_unknown : length rows < most_rows → kind_of number ≡ None → laid c rows number p ≡ Err (fault Parameter Pile (length rows))
+  kind_unknown h e = rw (lt-leb most_rows (length rows) h, e)
 
-  pub kind_known : length rows < most_rows → (kind : Kind) → Some kind ≡ kind_of number → laid c rows number p ≡ row_laid c rows (Some kind) p
-  kind_known h kind e = rw (lt-leb most_rows (length rows) h, sym e)
+  pub kind_known : length rows < most_rows → (kind : Kind) → kind_of number ≡ Some kind → laid c rows number p ≡ row_laid c rows (Some kind) p
+  kind_known h kind e = rw (lt-leb most_rows (length rows) h, e)

@@ -189,7 +189,7 @@ impl Pile {
         if self.count >= MOST_ROWS {
             return Err(declined(Refusal::TooMany, 8));
         }
-        let Some(kind) = Kind::from_number(kind) else {
+        let Ok(kind) = Kind::try_from(kind) else {
             return Err(declined(Refusal::Parameter, self.count as u64));
         };
         let row = Row { kind, parameter };
@@ -204,7 +204,7 @@ impl Pile {
     {
         let mut pile = Pile::new(capacity)?;
         for row in rows {
-            pile.lay(row.kind.number(), row.parameter)?;
+            pile.lay(u64::from(row.kind), row.parameter)?;
         }
         Ok(pile)
     }

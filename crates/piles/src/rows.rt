@@ -1,7 +1,7 @@
 // Rows: a kind of function or layer, and its parameter.
 ghost use Rattle.std.specs.Prelude.{◌≡◌};
 ghost use Rattle.piles.specs.Plain.{rows_in};
-ghost use Rattle.piles.specs.Kinds.{kind_number, kind_of};
+ghost use Rattle.piles.specs.Kinds.{kind_number, Numbers};
 
 // What a row lays on those below it.
 #[derive(Clone, Copy, PartialEq, Eq, Debug)]
@@ -13,6 +13,10 @@ pub enum Kind {
     Symmetrisation,
     Scaling,
 }
+
+// A number that no kind has.
+#[derive(Clone, Copy, PartialEq, Eq, Debug)]
+pub struct UnknownKind(pub u64);
 
 // A kind and its parameter, which is 0 for a symmetrisation.
 #[derive(Clone, Copy, PartialEq, Eq, Debug)]
@@ -35,12 +39,12 @@ pub(crate) struct Step {
     pub(crate) below: u64,
 }
 
-impl Kind {
-    // The kind's number, from 1 to 6.
-    pub fn number(self) -> u64
-        ensures { result ≡ kind_number self }
-    {
-        match self {
+// The kind's number, from 1 to 6.
+impl From<Kind> for u64 {
+    ghost from_gives = { λ kind n. n ≡ kind_number kind };
+
+    fn from(kind: Kind) -> u64 {
+        match kind {
             Kind::Threshold => 1,
             Kind::Rounding => 2,
             Kind::Division => 3,
@@ -49,19 +53,23 @@ impl Kind {
             Kind::Scaling => 6,
         }
     }
+}
 
-    // The kind that has the number, if there is one.
-    pub fn from_number(number: u64) -> Option<Kind>
-        ensures { result ≡ kind_of number }
-    {
+// The kind that has the number, if there is one.
+impl TryFrom<u64> for Kind {
+    type Error = UnknownKind;
+
+    ghost try_from_gives = { Numbers };
+
+    fn try_from(number: u64) -> Result<Kind, UnknownKind> {
         match number {
-            1 => Some(Kind::Threshold),
-            2 => Some(Kind::Rounding),
-            3 => Some(Kind::Division),
-            4 => Some(Kind::Counting),
-            5 => Some(Kind::Symmetrisation),
-            6 => Some(Kind::Scaling),
-            _ => None,
+            1 => Ok(Kind::Threshold),
+            2 => Ok(Kind::Rounding),
+            3 => Ok(Kind::Division),
+            4 => Ok(Kind::Counting),
+            5 => Ok(Kind::Symmetrisation),
+            6 => Ok(Kind::Scaling),
+            _ => Err(UnknownKind(number)),
         }
     }
 }

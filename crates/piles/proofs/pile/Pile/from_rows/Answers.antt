@@ -28,7 +28,7 @@ returns-in_err-lay c =
     let row = get_or rows i no_row in
     let n = new_pile c.args.capacity c.in_ok-pile.pile.capacity (pile_rows c.in_ok-pile.pile) c.in_ok-pile.ensures in
     let q = err_from_is_err_and c.from_residual-in_err-lay.result c.from_residual-in_err-lay.ensures.1 in
-    let f = lays c.args.capacity pile.capacity (pile_rows pile) c.number.result row c.loop-row.invariant.0 c.number.ensures ∙ refused_is (λ _. tt) (laid pile.capacity (pile_rows pile) c.number.result row.parameter) c.in_err-lay.field-0.0 c.in_err-lay.ensures.answer in
+    let f = lays c.args.capacity pile.capacity (pile_rows pile) c.from.result row c.loop-row.invariant.0 c.from.ensures ∙ refused_is (λ _. tt) (laid pile.capacity (pile_rows pile) c.from.result row.parameter) c.in_err-lay.field-0.0 c.in_err-lay.ensures.answer in
     rw (q.1, q.2)
     (sym (laid_from_new c.args.capacity n.2 rows (Err c.in_err-lay.field-0.0) (sym c.loop-row.invariant.1 ∙ at_drop_more (all_laid c.args.capacity (pile_rows pile)) rows i no_row c.loop-row-test.true ∙ ap (λ r. and_then r (λ next. all_laid c.args.capacity next (drop (i + 1) rows))) f)))
 
@@ -38,9 +38,9 @@ loop-row-preserved c =
     let i = c.loop-row.row-index in
     let pile = c.loop-row.pile in
     let row = get_or rows i no_row in
-    let laying = laid pile.capacity (pile_rows pile) c.number.result row.parameter in
+    let laying = laid pile.capacity (pile_rows pile) c.from.result row.parameter in
     let next = pile_rows c.lay.new.self in
-    let f = lays c.args.capacity pile.capacity (pile_rows pile) c.number.result row c.loop-row.invariant.0 c.number.ensures ∙ accepted_is laying (pile_rows pile) c.in_ok-lay.ensures.answer ∙ ap Ok (sym c.in_ok-lay.ensures.rows) in (
+    let f = lays c.args.capacity pile.capacity (pile_rows pile) c.from.result row c.loop-row.invariant.0 c.from.ensures ∙ accepted_is laying (pile_rows pile) c.in_ok-lay.ensures.answer ∙ ap Ok (sym c.in_ok-lay.ensures.rows) in (
       c.in_ok-lay.ensures.capacity ∙ c.loop-row.invariant.0,
       sym (at_drop_more (all_laid c.args.capacity (pile_rows pile)) rows i no_row c.loop-row-test.true ∙ ap (λ r. and_then r (λ next. all_laid c.args.capacity next (drop (i + 1) rows))) f) ∙ c.loop-row.invariant.1,
     )

@@ -21,21 +21,21 @@ pub returns-in_default : goal.returns-in_default
 returns-in_default c =
     let p = c.args.self.now in
     let few : length (pile_rows p) < most_rows = omega (arith, rows_counted p, c.if-self-ge-MOST_ROWS.false) in
-    let e = kind_unknown p.capacity (pile_rows p) c.args.kind c.args.parameter few c.in_default.ensures in
+    let e = kind_unknown p.capacity (pile_rows p) c.args.kind c.args.parameter few c.in_default.ensures.0 in
     record { answer = ap Err c.declined-in_default.ensures ∙ ap (λ n. Err (fault Parameter Pile n)) (sym (rows_counted p)) ∙ ap checked (sym e); capacity = refl; rows = ap (kept_or (pile_rows p)) (sym e) }
 
 pub returns-in_err-check_row : goal.returns-in_err-check_row
 returns-in_err-check_row c =
     let p = c.args.self.now in
     let few : length (pile_rows p) < most_rows = omega (arith, rows_counted p, c.if-self-ge-MOST_ROWS.false) in
-    let e = kind_known p.capacity (pile_rows p) c.args.kind c.args.parameter few c.in-Some.kind c.in-Some.ensures in
+    let e = kind_known p.capacity (pile_rows p) c.args.kind c.args.parameter few c.in-Ok.kind c.in-Ok.ensures in
     let q = err_from_is_err_and c.from_residual.result c.from_residual.ensures.1 in
-    let f = e ∙ refused_is (λ _. tt) (row_laid p.capacity (pile_rows p) (Some c.in-Some.kind) c.args.parameter) c.in_err-check_row.field-0.0 c.in_err-check_row.ensures in
+    let f = e ∙ refused_is (λ _. tt) (row_laid p.capacity (pile_rows p) (Some c.in-Ok.kind) c.args.parameter) c.in_err-check_row.field-0.0 c.in_err-check_row.ensures in
     record { answer = rw (q.1, q.2) (ap checked (sym f)); capacity = refl; rows = ap (kept_or (pile_rows p)) (sym f) }
 
 pub returns : goal.returns
 returns c =
     let p = c.args.self.now in
     let few : length (pile_rows p) < most_rows = omega (arith, rows_counted p, c.if-self-ge-MOST_ROWS.false) in
-    let e = kind_known p.capacity (pile_rows p) c.args.kind c.args.parameter few c.in-Some.kind c.in-Some.ensures in
-    record { answer = c.in_ok-check_row.ensures ∙ ap checked (sym e); capacity = c.push.ensures.capacity; rows = c.push.ensures.rows ∙ ap (kept_or (pile_rows p)) (sym (e ∙ row_accepted p.capacity (pile_rows p) c.in-Some.kind c.args.parameter c.in_ok-check_row.ensures)) }
+    let e = kind_known p.capacity (pile_rows p) c.args.kind c.args.parameter few c.in-Ok.kind c.in-Ok.ensures in
+    record { answer = c.in_ok-check_row.ensures ∙ ap checked (sym e); capacity = c.push.ensures.capacity; rows = c.push.ensures.rows ∙ ap (kept_or (pile_rows p)) (sym (e ∙ row_accepted p.capacity (pile_rows p) c.in-Ok.kind c.args.parameter c.in_ok-check_row.ensures)) }
