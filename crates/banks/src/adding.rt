@@ -5,16 +5,13 @@ ghost use Rattle.piles.specs.Contents.{pile_rows};
 ghost use Rattle.banks.specs.Banks.{bank_made, pile_added};
 ghost use Rattle.banks.specs.Contents.{bank_piles};
 
-use crate::bank::Bank;
+use crate::bank::{Bank, MOST_PILES};
+use arrayvec::ArrayVec;
 use bounds::checks::declined;
 use dual_feasible::DualFeasible;
 use dual_feasible::checks::check_capacity;
 use faults::{Fault, Layer, Refusal};
 use piles::pile::Pile;
-use piles::rows::Rows;
-
-// A bank holds at most this many piles.
-const MOST_PILES: usize = 8;
 
 impl Bank {
     // A bank with no pile, for a capacity, else refusal 1.
@@ -24,8 +21,7 @@ impl Bank {
         check_capacity(Layer::Bound, capacity)?;
         Ok(Bank {
             capacity,
-            count: 0,
-            piles: [Rows::NONE; 8],
+            piles: ArrayVec::new(),
         })
     }
 
@@ -40,11 +36,10 @@ impl Bank {
         if capacity != self.capacity {
             return Err(declined(Refusal::CapacitiesDiffer, capacity));
         }
-        if self.count >= MOST_PILES {
-            return Err(declined(Refusal::TooMany, 8));
+        if self.piles.is_full() {
+            return Err(declined(Refusal::TooMany, MOST_PILES as u64));
         }
-        self.piles[self.count] = pile.rows();
-        self.count += 1;
+        self.piles.push(pile.rows());
         Ok(())
     }
 }

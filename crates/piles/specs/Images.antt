@@ -1,5 +1,5 @@
 -- The image capacities of accepted rows.
-use Rattle.std.specs.Prelude.{◌≡◌, ℕ, ◌*◌, ◌≤◌, true, false, not, ◌&&◌, List, [], ◌∷◌, take, ◌==◌, nat_lt}
+use Rattle.std.specs.Prelude.{◌≡◌, ℕ, ◌*◌, ◌≤◌, true, false, not, ◌&&◌, List, [], ◌∷◌, ◌==◌, nat_lt}
 use Rattle.std.proofs.Math.Nat.{one-le-mul}
 use Rattle.std.proofs.Common.{one-mul, div-le_self, arith}
 use Rattle.std.proofs.lemmas.Nat.{le-div}
@@ -62,4 +62,4 @@ image_positive d steps h e n is = omega (arith, (images_in_range d steps h e).0)
 
 -- the image capacity of a pile
 pub pile_image_in_range : (p : Pile) → InRange p.image
-pile_image_in_range p = rw p.whole (images_in_range p.capacity (take p.count p.steps) p.limits p.standing)
+pile_image_in_range p = rw p.whole (images_in_range p.capacity p.steps.items p.limits p.standing)

@@ -1,5 +1,6 @@
 // Making a pile and laying rows on it.
-ghost use Rattle.std.specs.Prelude.{◌≡◌, ◌<◌, ◌≤◌, true, false, not, ◌&&◌, [], ◌∷◌, ◌++◌, Some, Ok, slice_set};
+ghost use Rattle.std.specs.Prelude.{◌≡◌, ◌<◌, ◌≤◌, true, false, not, ◌&&◌, [], ◌∷◌, ◌++◌, Some, Ok};
+ghost use Rattle.arrayvec.specs.ArrayVec.{array_vec_len};
 ghost use Rattle.dual_feasible.specs.Laws.{greatest};
 ghost use Rattle.faults.specs.Faults.{fault, outcome, checked, kept_or};
 ghost use Rattle.piles.specs.Contents.{pile_rows};
@@ -10,21 +11,10 @@ ghost use Rattle.piles.specs.Layered.{image_over_kind};
 ghost use Rattle.piles.specs.Standing.{accepted, topmost};
 
 use crate::pile::Pile;
-use crate::rows::{Kind, Row, Rows, Step};
+use crate::rows::{Kind, MOST_ROWS, Row, Rows, Step};
+use arrayvec::ArrayVec;
 use dual_feasible::checks::{GREATEST, check_capacity};
 use faults::{Fault, Layer, Refusal};
-
-// A pile has at most this many rows.
-const MOST_ROWS: usize = 8;
-
-// What stands in the places where no row is laid yet.
-const NOTHING: Step = Step {
-    row: Row {
-        kind: Kind::Threshold,
-        parameter: 0,
-    },
-    below: 0,
-};
 
 // A fault of this layer.
 fn declined(refusal: Refusal, figure: u64) -> Fault
@@ -35,14 +25,6 @@ fn declined(refusal: Refusal, figure: u64) -> Fault
         layer: Layer::Pile,
         figure,
     }
-}
-
-// A step on top of those that are laid.
-fn put(steps: &mut [Step; 8], count: usize, step: Step)
-    requires { count < 8 }
-    ensures { steps.new ≡ slice_set steps.old count step }
-{
-    steps[count] = step;
 }
 
 impl Kind {
@@ -113,8 +95,7 @@ impl Pile {
         check_capacity(Layer::Pile, capacity)?;
         Ok(Pile {
             capacity,
-            count: 0,
-            steps: [NOTHING; 8],
+            steps: ArrayVec::new(),
             image: capacity,
             mirror: None,
             counting: false,
@@ -126,7 +107,7 @@ impl Pile {
     fn check_row(&self, row: Row) -> Result<(), Fault>
         ensures { result ≡ checked (row_laid self.now.capacity (pile_rows self.now) (Some row.kind) row.parameter) }
     {
-        let at = self.count as u64;
+        let at = self.steps.len() as u64;
         if !row.in_range(self.image) {
             return Err(declined(Refusal::Parameter, at));
         }
@@ -144,7 +125,7 @@ impl Pile {
         ensures { topmost result (pile_rows self.now ++ row ∷ []) ≡ true }
     {
         if row.kind.symmetrises() {
-            return Some(self.count);
+            return Some(self.steps.len());
         }
         self.mirror
     }
@@ -161,7 +142,7 @@ impl Pile {
 
     // One row more, which the checks have accepted.
     fn push(&mut self, row: Row)
-        requires few { self.old.count < 8 }
+        requires few { array_vec_len self.old.steps < 8 }
         requires accepted { accepted row.kind self.old.image row.parameter ≡ true }
         requires apart { (symmetrises row.kind && self.old.counting) ≡ false }
         ensures capacity { self.new.capacity ≡ self.old.capacity }
@@ -171,11 +152,10 @@ impl Pile {
         let counting = self.counting_with(row);
         let image = row.image_over(self.image);
         let below = self.image;
-        put(&mut self.steps, self.count, Step { row, below });
+        self.steps.push(Step { row, below });
         self.image = image;
         self.mirror = mirror;
         self.counting = counting;
-        self.count += 1;
     }
 
     // One row more, of the kind with the number: refusal 6 for a ninth row, then 2 for an unknown kind or a parameter
@@ -186,11 +166,11 @@ impl Pile {
         ensures capacity { self.new.capacity ≡ self.old.capacity }
         ensures rows { pile_rows self.new ≡ kept_or (pile_rows self.old) (laid self.old.capacity (pile_rows self.old) kind parameter) }
     {
-        if self.count >= MOST_ROWS {
-            return Err(declined(Refusal::TooMany, 8));
+        if self.steps.is_full() {
+            return Err(declined(Refusal::TooMany, MOST_ROWS as u64));
         }
         let Ok(kind) = Kind::try_from(kind) else {
-            return Err(declined(Refusal::Parameter, self.count as u64));
+            return Err(declined(Refusal::Parameter, self.steps.len() as u64));
         };
         let row = Row { kind, parameter };
         self.check_row(row)?;
@@ -214,11 +194,10 @@ impl Pile {
         ensures rows { rows_in result ≡ pile_rows self.now }
         ensures again { pile_of self.now.capacity (rows_in result) ≡ Ok (self.now.capacity, rows_in result) }
     {
-        let mut rows = Rows::NONE.rows;
-        for i in 0..self.count {
-            rows[i] = self.steps[i].row;
+        let mut rows = Rows::default();
+        for step in self.steps.iter() {
+            rows.rows.push(step.row);
         }
-        let count = self.count;
-        Rows { count, rows }
+        rows
     }
 }

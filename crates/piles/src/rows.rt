@@ -1,11 +1,17 @@
 // Rows: a kind of function or layer, and its parameter.
-ghost use Rattle.std.specs.Prelude.{◌≡◌};
+ghost use Rattle.std.specs.Prelude.{◌≡◌, ◌≤◌, [], length};
 ghost use Rattle.piles.specs.Plain.{rows_in};
 ghost use Rattle.piles.specs.Kinds.{kind_number, Numbers};
 
+use arrayvec::ArrayVec;
+
+// A pile has at most this many rows.
+pub(crate) const MOST_ROWS: usize = 8;
+
 // What a row lays on those below it.
-#[derive(Clone, Copy, PartialEq, Eq, Debug)]
+#[derive(Clone, Copy, Default, PartialEq, Eq, Debug)]
 pub enum Kind {
+    #[default]
     Threshold,
     Rounding,
     Division,
@@ -19,21 +25,20 @@ pub enum Kind {
 pub struct UnknownKind(pub u64);
 
 // A kind and its parameter, which is 0 for a symmetrisation.
-#[derive(Clone, Copy, PartialEq, Eq, Debug)]
+#[derive(Clone, Copy, Default, PartialEq, Eq, Debug)]
 pub struct Row {
     pub kind: Kind,
     pub parameter: u64,
 }
 
-// Plain rows for a table, the lowest first: those below the count are meant.
-#[derive(Clone, Copy)]
+// Plain rows for a table, the lowest first.
+#[derive(Clone, Drop)]
 pub struct Rows {
-    pub(crate) count: usize,
-    pub(crate) rows: [Row; 8],
+    pub(crate) rows: ArrayVec<Row, MOST_ROWS>,
 }
 
 // A row that is laid, with the image capacity beneath it, so that a value costs one walk over the rows.
-#[derive(Clone, Copy)]
+#[derive(Clone, Copy, Default)]
 pub(crate) struct Step {
     pub(crate) row: Row,
     pub(crate) below: u64,
@@ -74,21 +79,23 @@ impl TryFrom<u64> for Kind {
     }
 }
 
-impl Rows {
-    // No rows.
-    pub const NONE: Rows = Rows {
-        count: 0,
-        rows: [Row {
-            kind: Kind::Threshold,
-            parameter: 0,
-        }; 8],
-    };
+// No rows.
+impl Default for Rows {
+    ghost is_default = { λ r. rows_in r ≡ [] };
 
+    fn default() -> Rows {
+        Rows {
+            rows: ArrayVec::new(),
+        }
+    }
+}
+
+impl Rows {
     // The rows that are meant.
     pub fn as_slice(&self) -> &[Row]
-        ensures { result.now ≡ rows_in self.now }
+        ensures rows { result.now ≡ rows_in self.now }
+        ensures few { length result.now ≤ 8 }
     {
-        let count = self.count.min(8);
-        &self.rows[0..count]
+        self.rows.as_slice()
     }
 }

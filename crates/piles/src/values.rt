@@ -155,6 +155,6 @@ impl DualFeasible for Pile {
         ensures { result ≡ valued self.now.capacity (layered self.now.capacity (pile_rows self.now)) size }
     {
         check_size(self.capacity, size)?;
-        Ok(stacked_value(self.capacity, &self.steps[0..self.count], self.mirror, size))
+        Ok(stacked_value(self.capacity, self.steps.as_slice(), self.mirror, size))
     }
 }

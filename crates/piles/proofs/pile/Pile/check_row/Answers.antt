@@ -14,14 +14,14 @@ returns-then-not-in_range c =
     let self = c.args.self.now in
     let row = c.args.row in
     ap Err c.declined.ensures
-    ∙ parameter_refused self.capacity (pile_rows self) row.kind row.parameter self.image self.count self.whole (rows_counted self) (not-false (parameter_outside row.kind self.image row.parameter) (sym c.if-not-in_range.ensures))
+    ∙ parameter_refused self.capacity (pile_rows self) row.kind row.parameter self.image c.len-at.result self.whole (rows_counted self ∙ sym c.len-at.ensures.value) (not-false (parameter_outside row.kind self.image row.parameter) (sym c.if-not-in_range.ensures))
 
 pub returns-then-symmetrises : goal.returns-then-symmetrises
 returns-then-symmetrises c =
     let self = c.args.self.now in
     let row = c.args.row in
     ap Err c.declined-then-symmetrises.ensures
-    ∙ counting_refused self.capacity (pile_rows self) row.kind row.parameter self.image self.count self.whole (rows_counted self) (not-true (parameter_outside row.kind self.image row.parameter) (sym c.if-not-in_range.ensures))
+    ∙ counting_refused self.capacity (pile_rows self) row.kind row.parameter self.image c.len-at.result self.whole (rows_counted self ∙ sym c.len-at.ensures.value) (not-true (parameter_outside row.kind self.image row.parameter) (sym c.if-not-in_range.ensures))
     (and_from (symmetrises row.kind) (counting_among (pile_rows self)) (sym c.if-symmetrises.ensures) (sym self.counted ∙ c.if-self.true))
 
 pub too_large-requires : goal.too_large-requires
@@ -41,4 +41,4 @@ returns-then-too_large c =
       | else-self-via-else-self w ↦ and_right (symmetrises row.kind) (counting_among (pile_rows self)) (sym self.counted ∙ w.if-self.false)
     ] in
     ap Err c.declined-then-too_large.ensures
-    ∙ image_refused self.capacity (pile_rows self) row.kind row.parameter self.image self.count self.whole (rows_counted self) (not-true (parameter_outside row.kind self.image row.parameter) (sym c.if-not-in_range.ensures)) unmixed (sym c.if-too_large.ensures)
+    ∙ image_refused self.capacity (pile_rows self) row.kind row.parameter self.image c.len-at.result self.whole (rows_counted self ∙ sym c.len-at.ensures.value) (not-true (parameter_outside row.kind self.image row.parameter) (sym c.if-not-in_range.ensures)) unmixed (sym c.if-too_large.ensures)

@@ -7,7 +7,7 @@ use Rattle.piles.proofs.pile.Pile.mirror_with.Goals as goal
 pub returns-then-symmetrises : goal.returns-then-symmetrises
 returns-then-symmetrises c =
     let rows = pile_rows c.args.self.now in
-    subst (λ (n : ℕ). top_at n (rows ++ c.args.row ∷ []) ≡ true) (rows_counted c.args.self.now) (top_push rows c.args.row (sym c.symmetrises.ensures ∙ c.if-symmetrises.true))
+    subst (λ (n : ℕ). top_at n (rows ++ c.args.row ∷ []) ≡ true) (rows_counted c.args.self.now ∙ sym c.len.ensures.value) (top_push rows c.args.row (sym c.symmetrises.ensures ∙ c.if-symmetrises.true))
 
 pub returns : goal.returns
 returns c =
