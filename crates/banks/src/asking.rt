@@ -49,8 +49,9 @@ impl Bank {
         ensures { outcome findings result ≡ asked_of self.now.capacity (surveyed self.now.capacity (bank_piles self.now)) list.now }
     {
         check_list(self.capacity, list)?;
+        let piles = self.piles.as_slice();
         let mut found = None;
-        for (i, rows) in self.piles.iter().enumerate() {
+        for (i, rows) in piles.iter().enumerate() {
             let bound = bound_of(self.capacity, rows, list)?;
             found = better_of(found, bound, i as u64);
         }
