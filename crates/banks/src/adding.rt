@@ -7,7 +7,6 @@ ghost use Rattle.banks.specs.Contents.{bank_piles};
 
 use crate::bank::{Bank, MOST_PILES};
 use arrayvec::ArrayVec;
-use bounds::checks::declined;
 use dual_feasible::DualFeasible;
 use dual_feasible::checks::check_capacity;
 use faults::{Fault, Layer, Refusal};
@@ -34,10 +33,10 @@ impl Bank {
     {
         let (capacity, _) = pile.capacities();
         if capacity != self.capacity {
-            return Err(declined(Refusal::CapacitiesDiffer, capacity));
+            return Err(Fault::new(Refusal::CapacitiesDiffer, Layer::Bound, capacity));
         }
         if self.piles.is_full() {
-            return Err(declined(Refusal::TooMany, MOST_PILES as u64));
+            return Err(Fault::new(Refusal::TooMany, Layer::Bound, MOST_PILES as u64));
         }
         self.piles.push(pile.rows());
         Ok(())

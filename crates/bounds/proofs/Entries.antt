@@ -1,7 +1,8 @@
 -- The walk over a list that looks for an entry above the capacity.
-use Rattle.std.proofs.Common.{◌≡◌, ℕ, ◌+◌, ◌<◌, ◌≤◌, true, false, ltb, List, [], ◌∷◌, length, get_or, drop, Ok, Err, Result, sym, refl, ap, ◌∙◌, arith}
-use Rattle.std.specs.List.{AllByRecursion}
+use Rattle.std.proofs.Common.{◌≡◌, ℕ, ◌+◌, ◌<◌, ◌≤◌, true, false, cond, nat_lt, ltb, List, [], ◌∷◌, length, get_or, drop, position, Option, Some, None, Ok, Err, Result, sym, refl, ap, ◌∙◌, arith}
+use Rattle.std.specs.List.{AllByRecursion, position_from}
 use Rattle.std.proofs.lemmas.List.{at_drop_more, at_drop_all}
+use Rattle.std.proofs.lemmas.Iterator.Adapters.{position_from-zero}
 use Rattle.std.proofs.lemmas.Bool.{lt-ltb, le-ltb}
 use Rattle.faults.specs.declared.Fault.{Fault}
 use Rattle.faults.specs.declared.Layer.TheVariants.{Bound}
@@ -21,6 +22,23 @@ module _ {X : Type 0} (c : ℕ) (list : List ℕ) (i : ℕ) (later : Result X Fa
   -- at the end comes what is later
   pub entries_passed : length list ≤ i → entries_check c i (drop i list) later ≡ later
   entries_passed h = at_drop_all (λ xs. entries_check c i xs later) list i h
+
+-- what the first entry above the capacity answers, if there is one
+abbrev pub refused_at : {X : Type 0} → Option ℕ → Result X Fault → Result X Fault
+refused_at None later = later
+refused_at (Some i) later = Err (fault Size Bound i)
+
+walk_found : {X : Type 0} (c i : ℕ) (list : List ℕ) (later : Result X Fault) → entries_check c i list later ≡ refused_at (position_from (λ s. nat_lt c s) i list) later
+walk_found c i [] later = refl
+walk_found {X} c i (s ∷ list) later =
+    elim (ltb c s) as (λ b. refuse {X = X} b (fault Size Bound i) (entries_check c (i + 1) list later) ≡ refused_at (cond b (Some i) (position_from (λ s. nat_lt c s) (i + 1) list)) later) [
+      | true ↦ refl
+      | false ↦ walk_found c (i + 1) list later
+    ]
+
+-- the walk refuses the first entry above the capacity
+pub first_found : {X : Type 0} (c : ℕ) (list : List ℕ) (later : Result X Fault) → entries_check c 0 list later ≡ refused_at (position (λ s. nat_lt c s) list) later
+first_found c list later = walk_found c 0 list later ∙ ap (λ i. refused_at i later) (sym (position_from-zero (λ s. nat_lt c s) list))
 
 -- a list whose entries are within the capacity passes
 within_passes : {X : Type 0} (c i : ℕ) (list : List ℕ) (later : Result X Fault) → AllByRecursion (λ s. s ≤ c) list → entries_check c i list later ≡ later

@@ -19,13 +19,13 @@ entries_check c i (s ∷ list) later = refuse (nat_lt c s) (fault Size Bound i) 
 abbrev pub most : ℕ
 most = 64
 
--- 6 for a list with too many entries, then 4, else the list's number
-abbrev pub asked : ℕ → (List ℕ → ℕ) → List ℕ → Result ℕ Fault
-asked c number list = refuse (nat_lt most (length list)) (fault TooMany Bound most) (entries_check c 0 list (Ok (number list)))
-
--- the same with an answer of any kind for the list
+-- 6 for a list with too many entries, then 4, else the list's answer
 abbrev pub asked_of : {X : Type 0} → ℕ → (List ℕ → X) → List ℕ → Result X Fault
 asked_of c answer list = refuse (nat_lt most (length list)) (fault TooMany Bound most) (entries_check c 0 list (Ok (answer list)))
+
+-- where the answer is a number
+abbrev pub asked : ℕ → (List ℕ → ℕ) → List ℕ → Result ℕ Fault
+asked c number list = asked_of c number list
 
 -- the law of a bounder: every plan of a list that it takes has at least the list's number of bars
 abbrev pub Sound : ℕ → (List ℕ → ℕ) → Type 0

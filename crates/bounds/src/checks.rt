@@ -1,20 +1,15 @@
 // The checks that every bounder begins with, for whoever implements the interface.
-ghost use Rattle.std.specs.Prelude.{◌≡◌};
+ghost use Rattle.std.specs.Prelude.{◌≡◌, nat_lt, position};
 ghost use Rattle.bounds.specs.Bounds.{asked_of};
-ghost use Rattle.faults.specs.Faults.{fault};
 
 use crate::MOST;
 use faults::{Fault, Layer, Refusal};
 
-// A fault of this layer.
-pub fn declined(refusal: Refusal, figure: u64) -> Fault
-    ensures { result ≡ fault refusal Layer.Bound figure }
+// The position of the first entry above the capacity, if there is one.
+fn first_above(capacity: u64, list: &[u64]) -> Option<usize>
+    ensures { result ≡ position (λ s. nat_lt capacity s) list.now }
 {
-    Fault {
-        refusal,
-        layer: Layer::Bound,
-        figure,
-    }
+    list.iter().position(|size| *size > capacity)
 }
 
 // A list of more than 64 entries is refused with 6, then the first entry above the capacity with 4 and its position.
@@ -22,12 +17,10 @@ pub fn check_list(capacity: u64, list: &[u64]) -> Result<(), Fault>
     ensures { result ≡ asked_of capacity (λ _. tt) list.now }
 {
     if list.len() > MOST {
-        return Err(declined(Refusal::TooMany, MOST as u64));
+        return Err(Fault::new(Refusal::TooMany, Layer::Bound, MOST as u64));
     }
-    for (i, size) in list.iter().enumerate() {
-        if *size > capacity {
-            return Err(declined(Refusal::Size, i as u64));
-        }
+    match first_above(capacity, list) {
+        Some(i) => Err(Fault::new(Refusal::Size, Layer::Bound, i as u64)),
+        None => Ok(()),
     }
-    Ok(())
 }

@@ -6,8 +6,7 @@ ghost use Rattle.bounds.specs.Sound.{greater_sound};
 ghost use Rattle.std.proofs.Common.{rules};
 
 use crate::Bounder;
-use crate::checks::declined;
-use faults::{Fault, Refusal};
+use faults::{Fault, Layer, Refusal};
 
 #[derive(Drop)]
 pub struct Greater<A, B> {
@@ -22,7 +21,7 @@ impl<A: Bounder + Drop, B: Bounder + Drop> Greater<A, B> {
     {
         let second_capacity = second.capacity();
         if first.capacity() != second_capacity {
-            return Err(declined(Refusal::CapacitiesDiffer, second_capacity));
+            return Err(Fault::new(Refusal::CapacitiesDiffer, Layer::Bound, second_capacity));
         }
         Ok(Greater { first, second })
     }

@@ -34,21 +34,13 @@ pub fn lower_bound<F: DualFeasible>(f: &F, list: &[u64]) -> Result<u64, Fault>
     ensures least { AtLeast (F.capacity f.now) list.now (bound (F.image f.now) (F.map f.now) list.now) }
 {
     if list.len() > MOST {
-        return Err(Fault {
-            refusal: Refusal::TooMany,
-            layer: Layer::Bound,
-            figure: 64,
-        });
+        return Err(Fault::new(Refusal::TooMany, Layer::Bound, MOST as u64));
     }
     let (_, image) = f.capacities();
     let mut total = 0;
     for (i, size) in list.iter().enumerate() {
         let Ok(value) = f.value(*size) else {
-            return Err(Fault {
-                refusal: Refusal::Size,
-                layer: Layer::Bound,
-                figure: i as u64,
-            });
+            return Err(Fault::new(Refusal::Size, Layer::Bound, i as u64));
         };
         total += value;
     }

@@ -7,16 +7,13 @@ use faults::{Fault, Layer, Refusal};
 // Capacities and image capacities go from 1 up to here.
 pub const GREATEST: u64 = 1_000_000_000;
 
-// A capacity outside 1 to 1,000,000,000 is refused with 1, in the layer that was called.
+// A capacity outside 1 to 1,000,000,000 is refused with 1, in the layer that was called. Whoever keeps a capacity says that
+// it is in range in a ghost field beside it: a type for capacities would put `f.capacity.value` into every clause and law.
 pub fn check_capacity(layer: Layer, capacity: u64) -> Result<(), Fault>
     ensures { result ≡ capacity_check layer capacity (Ok tt) }
 {
-    if capacity < 1 || capacity > GREATEST {
-        return Err(Fault {
-            refusal: Refusal::Capacity,
-            layer,
-            figure: capacity,
-        });
+    if !(1..=GREATEST).contains(&capacity) {
+        return Err(Fault::new(Refusal::Capacity, layer, capacity));
     }
     Ok(())
 }
@@ -26,11 +23,7 @@ pub fn check_size(capacity: u64, size: u64) -> Result<(), Fault>
     ensures { result ≡ size_check capacity size (Ok tt) }
 {
     if size > capacity {
-        return Err(Fault {
-            refusal: Refusal::Size,
-            layer: Layer::Function,
-            figure: size,
-        });
+        return Err(Fault::new(Refusal::Size, Layer::Function, size));
     }
     Ok(())
 }

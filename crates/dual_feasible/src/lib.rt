@@ -33,7 +33,8 @@ pub trait DualFeasible {
 }
 
 // A superadditive function: the parts of a size never weigh more than the whole. Its map and its capacities are its
-// own, so that what is built on this interface can take its meaning from them.
+// own, so that what is built on this interface can take its meaning from them. An implementation names them and the two
+// common laws once more: the default of a ghost member sees no member, and a law's proof no law of another implementation.
 pub trait Superadditive: DualFeasible {
     ghost capacity: { Self → ℕ };
 

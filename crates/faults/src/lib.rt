@@ -2,13 +2,13 @@
 #![tactic(auto)]
 
 ghost use Rattle.std.specs.Prelude.{◌≡◌};
-ghost use Rattle.faults.specs.Faults.{number_of};
+ghost use Rattle.faults.specs.Faults.{number_of, fault};
 
-// Why a call declines. The number that a user reads is `number_of` the case.
+// Why a call declines. The cases are numbered from 1, and a user reads these numbers.
 #[derive(Clone, Copy, PartialEq, Eq, Debug)]
 pub enum Refusal {
     // a capacity outside 1 to 1,000,000,000
-    Capacity,
+    Capacity = 1,
     // a parameter or a kind outside its range
     Parameter,
     // an image capacity above 1,000,000,000
@@ -51,24 +51,24 @@ pub struct Fault {
     pub figure: u64,
 }
 
-impl Refusal {
+impl From<Refusal> for u64 {
+    ghost from_gives = { λ refusal n. n ≡ number_of refusal };
+
     // The refusal's number, from 1 to 12.
-    pub fn number(self) -> u64
-        ensures { result ≡ number_of self }
+    fn from(refusal: Refusal) -> u64 {
+        refusal as u64
+    }
+}
+
+impl Fault {
+    // A fault of a layer.
+    pub fn new(refusal: Refusal, layer: Layer, figure: u64) -> Fault
+        ensures { result ≡ fault refusal layer figure }
     {
-        match self {
-            Refusal::Capacity => 1,
-            Refusal::Parameter => 2,
-            Refusal::ImageCapacity => 3,
-            Refusal::Size => 4,
-            Refusal::CapacitiesDiffer => 5,
-            Refusal::TooMany => 6,
-            Refusal::NotThere => 7,
-            Refusal::CountingBeneath => 8,
-            Refusal::Steps => 9,
-            Refusal::Finished => 10,
-            Refusal::Spent => 11,
-            Refusal::Malformed => 12,
+        Fault {
+            refusal,
+            layer,
+            figure,
         }
     }
 }

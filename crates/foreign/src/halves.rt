@@ -1,11 +1,11 @@
 // A bounder of one's own: no bar takes two entries above half the capacity, so each of them needs its own.
-ghost use Rattle.std.specs.Prelude.{◌≡◌, Ok};
+ghost use Rattle.std.specs.Prelude.{◌≡◌, count_by, nat_lt, Ok};
 ghost use Rattle.dual_feasible.specs.Answers.{capacity_check};
 ghost use Rattle.dual_feasible.specs.Laws.{InRange};
 ghost use Rattle.faults.specs.Faults.{outcome};
 ghost use Rattle.foreign.specs.AboveHalf.{above_half};
 ghost use Rattle.foreign.specs.AboveHalfSound.{above_half_sound};
-ghost use Rattle.std.proofs.Common.{rules, arith};
+ghost use Rattle.std.proofs.Common.{rules};
 
 use bounds::Bounder;
 use bounds::checks::check_list;
@@ -16,6 +16,13 @@ use faults::{Fault, Layer};
 pub struct Halves {
     capacity: u64,
     ghost limits: { InRange capacity },
+}
+
+// How many entries are above a size.
+fn count_above(list: &[u64], half: u64) -> usize
+    ensures { result ≡ count_by (λ s. nat_lt half s) list.now }
+{
+    list.iter().filter(|size| **size > half).count()
 }
 
 impl Halves {
@@ -33,7 +40,7 @@ impl Bounder for Halves {
 
     ghost number = { λ b. above_half b.capacity };
 
-    ghost limits = { first_of (Prim.search rules, Prim.grind (arith, Self.row.coded.inj)) };
+    ghost limits = { Prim.search rules };
 
     ghost sound = { λ b. above_half_sound b.capacity };
 
@@ -43,13 +50,6 @@ impl Bounder for Halves {
 
     fn number(&self, list: &[u64]) -> Result<u64, Fault> {
         check_list(self.capacity, list)?;
-        let half = self.capacity / 2;
-        let mut count = 0;
-        for size in list {
-            if *size > half {
-                count += 1;
-            }
-        }
-        Ok(count)
+        Ok(count_above(list, self.capacity / 2) as u64)
     }
 }

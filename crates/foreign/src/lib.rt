@@ -6,7 +6,7 @@ ghost use Rattle.dual_feasible.specs.Answers.{capacity_check};
 ghost use Rattle.dual_feasible.specs.Laws.{InRange};
 ghost use Rattle.faults.specs.Faults.{outcome};
 ghost use Rattle.foreign.specs.ZeroLaw.{zero_lawful};
-ghost use Rattle.std.proofs.Common.{rules, arith};
+ghost use Rattle.std.proofs.Common.{rules};
 
 use dual_feasible::checks::{check_capacity, check_size};
 use dual_feasible::{DualFeasible, Superadditive};
@@ -39,7 +39,7 @@ impl DualFeasible for Zero {
 
     ghost map = { λ _ _. 0 };
 
-    ghost limits = { first_of (Prim.search rules, Prim.grind (arith, Self.row.coded.inj)) };
+    ghost limits = { Prim.search rules };
 
     ghost lawful = { λ f. zero_lawful f.capacity };
 
@@ -60,11 +60,11 @@ impl Superadditive for Zero {
 
     ghost map = { Self.DualFeasible.map };
 
-    ghost limits = { first_of (Prim.search rules, Prim.grind (arith, Self.row.coded.inj)) };
+    ghost limits = { Prim.search rules };
 
     ghost lawful = { λ f. zero_lawful f.capacity };
 
-    ghost superadditive = { first_of (Prim.search rules, Prim.grind (arith, Self.row.coded.inj)) };
+    ghost superadditive = { Prim.search rules };
 
     fn own_capacities(&self) -> (u64, u64) {
         self.capacities()

@@ -5,9 +5,8 @@ ghost use Rattle.faults.specs.Faults.{outcome};
 ghost use Rattle.functions.specs.Made.{counting_made};
 ghost use Rattle.functions.specs.Values.{counting, counting_image};
 ghost use Rattle.functions.specs.CountingLaw.{counting_lawful};
-ghost use Rattle.std.proofs.Common.{rules, arith};
+ghost use Rattle.std.proofs.Common.{rules};
 
-use crate::checks::declined;
 use dual_feasible::DualFeasible;
 use dual_feasible::checks::{check_capacity, check_size};
 use faults::{Fault, Layer, Refusal};
@@ -26,8 +25,8 @@ impl Counting {
         ensures { outcome (λ f. (f.capacity, f.parameter)) result ≡ counting_made capacity e }
     {
         check_capacity(Layer::Function, capacity)?;
-        if e < 1 || e > capacity / 2 {
-            return Err(declined(Refusal::Parameter, e));
+        if !(1..=capacity / 2).contains(&e) {
+            return Err(Fault::new(Refusal::Parameter, Layer::Function, e));
         }
         Ok(Counting {
             capacity,
@@ -43,7 +42,7 @@ impl DualFeasible for Counting {
 
     ghost map = { λ f. counting f.capacity f.parameter };
 
-    ghost limits = { first_of (Prim.search rules, Prim.grind (arith, Self.row.coded.inj)) };
+    ghost limits = { Prim.search rules };
 
     ghost lawful = { λ f. counting_lawful f.capacity f.parameter f.range.0 };
 
@@ -56,6 +55,6 @@ impl DualFeasible for Counting {
         if 2 * size > self.capacity {
             return Ok(self.capacity / self.parameter - (self.capacity - size) / self.parameter);
         }
-        Ok(if self.parameter <= size { 1 } else { 0 })
+        Ok(u64::from(self.parameter <= size))
     }
 }

@@ -5,9 +5,8 @@ ghost use Rattle.faults.specs.Faults.{outcome};
 ghost use Rattle.functions.specs.Made.{division_made};
 ghost use Rattle.functions.specs.Values.{division, division_image};
 ghost use Rattle.functions.specs.SuperadditiveValues.{division_lawful, division_adds};
-ghost use Rattle.std.proofs.Common.{rules, arith};
+ghost use Rattle.std.proofs.Common.{rules};
 
-use crate::checks::declined;
 use dual_feasible::checks::{check_capacity, check_size};
 use dual_feasible::{DualFeasible, Superadditive};
 use faults::{Fault, Layer, Refusal};
@@ -26,8 +25,8 @@ impl Division {
         ensures { outcome (λ f. (f.capacity, f.parameter)) result ≡ division_made capacity k }
     {
         check_capacity(Layer::Function, capacity)?;
-        if k < 1 || k > capacity {
-            return Err(declined(Refusal::Parameter, k));
+        if !(1..=capacity).contains(&k) {
+            return Err(Fault::new(Refusal::Parameter, Layer::Function, k));
         }
         Ok(Division {
             capacity,
@@ -43,7 +42,7 @@ impl DualFeasible for Division {
 
     ghost map = { λ f. division f.parameter };
 
-    ghost limits = { first_of (Prim.search rules, Prim.grind (arith, Self.row.coded.inj)) };
+    ghost limits = { Prim.search rules };
 
     ghost lawful = { λ f. division_lawful f.capacity f.parameter f.range.0 };
 
@@ -64,7 +63,7 @@ impl Superadditive for Division {
 
     ghost map = { Self.DualFeasible.map };
 
-    ghost limits = { first_of (Prim.search rules, Prim.grind (arith, Self.row.coded.inj)) };
+    ghost limits = { Prim.search rules };
 
     ghost lawful = { λ f. division_lawful f.capacity f.parameter f.range.0 };
 

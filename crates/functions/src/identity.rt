@@ -4,7 +4,7 @@ ghost use Rattle.dual_feasible.specs.Laws.{InRange};
 ghost use Rattle.faults.specs.Faults.{outcome};
 ghost use Rattle.functions.specs.Made.{identity_made};
 ghost use Rattle.functions.specs.Values.{identity};
-ghost use Rattle.std.proofs.Common.{rules, arith};
+ghost use Rattle.std.proofs.Common.{rules};
 
 use dual_feasible::checks::{check_capacity, check_size};
 use dual_feasible::{DualFeasible, Superadditive};
@@ -33,9 +33,9 @@ impl DualFeasible for Identity {
 
     ghost map = { λ _. identity };
 
-    ghost limits = { first_of (Prim.search rules, Prim.grind (arith, Self.row.coded.inj)) };
+    ghost limits = { Prim.search rules };
 
-    ghost lawful = { first_of (Prim.search rules, Prim.grind (arith, Self.row.coded.inj)) };
+    ghost lawful = { Prim.search rules };
 
     fn capacities(&self) -> (u64, u64) {
         (self.capacity, self.capacity)
@@ -54,11 +54,11 @@ impl Superadditive for Identity {
 
     ghost map = { Self.DualFeasible.map };
 
-    ghost limits = { first_of (Prim.search rules, Prim.grind (arith, Self.row.coded.inj)) };
+    ghost limits = { Prim.search rules };
 
-    ghost lawful = { first_of (Prim.search rules, Prim.grind (arith, Self.row.coded.inj)) };
+    ghost lawful = { Prim.search rules };
 
-    ghost superadditive = { first_of (Prim.search rules, Prim.grind (arith, Self.row.coded.inj)) };
+    ghost superadditive = { Prim.search rules };
 
     fn own_capacities(&self) -> (u64, u64) {
         self.capacities()

@@ -1,7 +1,6 @@
 // The five dual feasible functions, each made for a capacity.
 #![tactic(auto)]
 
-mod checks;
 pub mod counting;
 pub mod division;
 pub mod identity;

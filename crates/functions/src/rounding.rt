@@ -7,7 +7,6 @@ ghost use Rattle.functions.specs.Values.{rounding, rounding_image};
 ghost use Rattle.std.proofs.Math.Nat.{one-le-mul};
 ghost use Rattle.functions.specs.SuperadditiveValues.{rounding_lawful, rounding_adds};
 
-use crate::checks::declined;
 use dual_feasible::checks::{GREATEST, check_capacity, check_size};
 use dual_feasible::{DualFeasible, Superadditive};
 use faults::{Fault, Layer, Refusal};
@@ -28,11 +27,11 @@ impl Rounding {
         ensures { outcome (λ f. (f.capacity, f.parameter)) result ≡ rounding_made capacity k }
     {
         check_capacity(Layer::Function, capacity)?;
-        if k < 1 || k > 1_000 {
-            return Err(declined(Refusal::Parameter, k));
+        if !(1..=1_000).contains(&k) {
+            return Err(Fault::new(Refusal::Parameter, Layer::Function, k));
         }
         if capacity * k > GREATEST {
-            return Err(declined(Refusal::ImageCapacity, capacity));
+            return Err(Fault::new(Refusal::ImageCapacity, Layer::Function, capacity));
         }
         Ok(Rounding {
             capacity,

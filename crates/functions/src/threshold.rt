@@ -5,9 +5,8 @@ ghost use Rattle.faults.specs.Faults.{outcome};
 ghost use Rattle.functions.specs.Made.{threshold_made};
 ghost use Rattle.functions.specs.Values.{threshold};
 ghost use Rattle.functions.specs.SuperadditiveValues.{threshold_lawful, threshold_adds};
-ghost use Rattle.std.proofs.Common.{rules, arith};
+ghost use Rattle.std.proofs.Common.{rules};
 
-use crate::checks::declined;
 use dual_feasible::checks::{check_capacity, check_size};
 use dual_feasible::{DualFeasible, Superadditive};
 use faults::{Fault, Layer, Refusal};
@@ -27,7 +26,7 @@ impl Threshold {
     {
         check_capacity(Layer::Function, capacity)?;
         if t > capacity / 2 {
-            return Err(declined(Refusal::Parameter, t));
+            return Err(Fault::new(Refusal::Parameter, Layer::Function, t));
         }
         Ok(Threshold {
             capacity,
@@ -43,7 +42,7 @@ impl DualFeasible for Threshold {
 
     ghost map = { λ f. threshold f.capacity f.parameter };
 
-    ghost limits = { first_of (Prim.search rules, Prim.grind (arith, Self.row.coded.inj)) };
+    ghost limits = { Prim.search rules };
 
     ghost lawful = { λ f. threshold_lawful f.capacity f.parameter f.half };
 
@@ -68,7 +67,7 @@ impl Superadditive for Threshold {
 
     ghost map = { Self.DualFeasible.map };
 
-    ghost limits = { first_of (Prim.search rules, Prim.grind (arith, Self.row.coded.inj)) };
+    ghost limits = { Prim.search rules };
 
     ghost lawful = { λ f. threshold_lawful f.capacity f.parameter f.half };
 

@@ -24,11 +24,7 @@ impl<O: DualFeasible + Drop, I: DualFeasible + Drop> Composition<O, I> {
         let (capacity, _) = outer.capacities();
         let (_, image) = inner.capacities();
         if capacity != image {
-            return Err(Fault {
-                refusal: Refusal::CapacitiesDiffer,
-                layer: Layer::Function,
-                figure: image,
-            });
+            return Err(Fault::new(Refusal::CapacitiesDiffer, Layer::Function, image));
         }
         Ok(Composition { outer, inner })
     }

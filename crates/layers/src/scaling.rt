@@ -4,7 +4,7 @@ ghost use Rattle.dual_feasible.specs.Laws.{InRange};
 ghost use Rattle.faults.specs.Faults.{outcome};
 ghost use Rattle.layers.specs.Layers.{scaled, scaling_made};
 ghost use Rattle.layers.specs.ScaledLaw.{scaled_lawful, scaled_adds};
-ghost use Rattle.std.proofs.Common.{rules, arith};
+ghost use Rattle.std.proofs.Common.{rules};
 
 use dual_feasible::checks::GREATEST;
 use dual_feasible::{DualFeasible, Superadditive};
@@ -23,12 +23,8 @@ impl<F: DualFeasible + Drop> Scaling<F> {
     pub fn new(inner: F, target: u64) -> Result<Scaling<F>, Fault>
         ensures { outcome {Y = F × ℕ} (λ f. (f.inner, f.target)) result ≡ scaling_made target (inner, target) }
     {
-        if target < 1 || target > GREATEST {
-            return Err(Fault {
-                refusal: Refusal::Parameter,
-                layer: Layer::Function,
-                figure: target,
-            });
+        if !(1..=GREATEST).contains(&target) {
+            return Err(Fault::new(Refusal::Parameter, Layer::Function, target));
         }
         Ok(Scaling { inner, target })
     }
@@ -41,7 +37,7 @@ impl<F: DualFeasible> DualFeasible for Scaling<F> {
 
     ghost map = { λ f. scaled (F.DualFeasible.image f.inner) f.target (F.DualFeasible.map f.inner) };
 
-    ghost limits = { first_of (Prim.search rules, Prim.grind (arith, Self.row.coded.inj)) };
+    ghost limits = { Prim.search rules };
 
     ghost lawful = { λ f. scaled_lawful _ _ _ (F.DualFeasible.limits f.inner).1.0 _ (F.DualFeasible.lawful f.inner) };
 
@@ -64,7 +60,7 @@ impl<F: Superadditive> Superadditive for Scaling<F> {
 
     ghost map = { λ f. scaled (F.Superadditive.image f.inner) f.target (F.Superadditive.map f.inner) };
 
-    ghost limits = { first_of (Prim.search rules, Prim.grind (arith, Self.row.coded.inj)) };
+    ghost limits = { Prim.search rules };
 
     ghost lawful = { λ f. scaled_lawful _ _ _ (F.Superadditive.limits f.inner).1.0 _ (F.Superadditive.lawful f.inner) };
 

@@ -23,11 +23,7 @@ impl<F: Superadditive + Drop> Symmetrisation<F> {
     {
         let (capacity, image) = inner.own_capacities();
         if 2 * image > GREATEST {
-            return Err(Fault {
-                refusal: Refusal::ImageCapacity,
-                layer: Layer::Function,
-                figure: capacity,
-            });
+            return Err(Fault::new(Refusal::ImageCapacity, Layer::Function, capacity));
         }
         Ok(Symmetrisation { inner })
     }

@@ -2,7 +2,7 @@
 ghost use Rattle.std.specs.Prelude.{◌≡◌, ◌<◌, ◌≤◌, true, false, not, ◌&&◌, [], ◌∷◌, ◌++◌, Some, Ok};
 ghost use Rattle.arrayvec.specs.ArrayVec.{array_vec_len};
 ghost use Rattle.dual_feasible.specs.Laws.{greatest};
-ghost use Rattle.faults.specs.Faults.{fault, outcome, checked, kept_or};
+ghost use Rattle.faults.specs.Faults.{outcome, checked, kept_or};
 ghost use Rattle.piles.specs.Contents.{pile_rows};
 ghost use Rattle.piles.specs.Kinds.{symmetrises, counts};
 ghost use Rattle.piles.specs.Laying.{pile_made, pile_of, laid, parameter_outside, image_outside, counting_among, row_laid};
@@ -15,17 +15,6 @@ use crate::rows::{Kind, MOST_ROWS, Row, Rows, Step};
 use arrayvec::ArrayVec;
 use dual_feasible::checks::{GREATEST, check_capacity};
 use faults::{Fault, Layer, Refusal};
-
-// A fault of this layer.
-fn declined(refusal: Refusal, figure: u64) -> Fault
-    ensures { result ≡ fault refusal Layer.Pile figure }
-{
-    Fault {
-        refusal,
-        layer: Layer::Pile,
-        figure,
-    }
-}
 
 impl Kind {
     // Whether the kind is that of a symmetrisation.
@@ -109,13 +98,13 @@ impl Pile {
     {
         let at = self.steps.len() as u64;
         if !row.in_range(self.image) {
-            return Err(declined(Refusal::Parameter, at));
+            return Err(Fault::new(Refusal::Parameter, Layer::Pile, at));
         }
         if self.counting && row.kind.symmetrises() {
-            return Err(declined(Refusal::CountingBeneath, at));
+            return Err(Fault::new(Refusal::CountingBeneath, Layer::Pile, at));
         }
         if row.too_large(self.image) {
-            return Err(declined(Refusal::ImageCapacity, at));
+            return Err(Fault::new(Refusal::ImageCapacity, Layer::Pile, at));
         }
         Ok(())
     }
@@ -167,10 +156,10 @@ impl Pile {
         ensures rows { pile_rows self.new ≡ kept_or (pile_rows self.old) (laid self.old.capacity (pile_rows self.old) kind parameter) }
     {
         if self.steps.is_full() {
-            return Err(declined(Refusal::TooMany, MOST_ROWS as u64));
+            return Err(Fault::new(Refusal::TooMany, Layer::Pile, MOST_ROWS as u64));
         }
         let Ok(kind) = Kind::try_from(kind) else {
-            return Err(declined(Refusal::Parameter, self.steps.len() as u64));
+            return Err(Fault::new(Refusal::Parameter, Layer::Pile, self.steps.len() as u64));
         };
         let row = Row { kind, parameter };
         self.check_row(row)?;

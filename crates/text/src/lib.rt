@@ -55,7 +55,7 @@ pub fn answer(heap: Global, input: &[u8]) -> Result<Printed, AllocError>
             })
         }
         Err(stop) => Ok(Printed {
-            text: refused_line(heap, stop.fault.refusal.number(), stop.line)?,
+            text: refused_line(heap, u64::from(stop.fault.refusal), stop.line)?,
             refused: Some(stop.fault),
         }),
     }

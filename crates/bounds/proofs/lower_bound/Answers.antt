@@ -1,4 +1,4 @@
-use Rattle.std.proofs.Common.{◌≡◌, ℕ, ◌≤◌, List, length, get_or, Ok, Result, sym, ap, ◌∙◌, arith}
+use Rattle.std.proofs.Common.{◌≡◌, ℕ, ◌≤◌, List, length, get_or, Ok, Err, Result, sym, ap, ◌∙◌, arith}
 use Rattle.std.proofs.lemmas.List.{at_drop_more, at_drop_all}
 use Rattle.std.proofs.lemmas.Bool.{lt-ltb, le-ltb}
 use Rattle.faults.specs.declared.Fault.{Fault}
@@ -20,7 +20,7 @@ least-of g f list =
 pub returns-then-list-gt-MOST : goal.returns-then-list-gt-MOST
 returns-then-list-gt-MOST g c =
     record {
-      answer = rw (lt-ltb 64 (length c.args.list.now) c.if-list-gt-MOST.true);
+      answer = rw (lt-ltb 64 (length c.args.list.now) c.if-list-gt-MOST.true) (ap Err c.new.ensures);
       least = least-of g c.args.f.now c.args.list.now;
     }
 
@@ -31,7 +31,7 @@ returns-in_default g c =
     record {
       answer =
           rw (le-ltb 64 (length c.args.list.now) c.if-list-gt-MOST.false)
-          (sym (c.loop-i.invariant.2 later ∙ entry_refused (g.F.DualFeasible.capacity c.args.f.now) c.args.list.now c.loop-i.i later c.loop-i-test.true above));
+          (ap Err c.new-in_default.ensures ∙ sym (c.loop-i.invariant.2 later ∙ entry_refused (g.F.DualFeasible.capacity c.args.f.now) c.args.list.now c.loop-i.i later c.loop-i-test.true above));
       least = least-of g c.args.f.now c.args.list.now;
     }
 

@@ -13,14 +13,14 @@ pub returns-then-not-in_range : goal.returns-then-not-in_range
 returns-then-not-in_range c =
     let self = c.args.self.now in
     let row = c.args.row in
-    ap Err c.declined.ensures
+    ap Err c.new.ensures
     ∙ parameter_refused self.capacity (pile_rows self) row.kind row.parameter self.image c.len-at.result self.whole (rows_counted self ∙ sym c.len-at.ensures.value) (not-false (parameter_outside row.kind self.image row.parameter) (sym c.if-not-in_range.ensures))
 
 pub returns-then-symmetrises : goal.returns-then-symmetrises
 returns-then-symmetrises c =
     let self = c.args.self.now in
     let row = c.args.row in
-    ap Err c.declined-then-symmetrises.ensures
+    ap Err c.new-then-symmetrises.ensures
     ∙ counting_refused self.capacity (pile_rows self) row.kind row.parameter self.image c.len-at.result self.whole (rows_counted self ∙ sym c.len-at.ensures.value) (not-true (parameter_outside row.kind self.image row.parameter) (sym c.if-not-in_range.ensures))
     (and_from (symmetrises row.kind) (counting_among (pile_rows self)) (sym c.if-symmetrises.ensures) (sym self.counted ∙ c.if-self.true))
 
@@ -40,5 +40,5 @@ returns-then-too_large c =
       | else-self-via-then-self+else-symmetrises w ↦ and_left (symmetrises row.kind) (counting_among (pile_rows self)) (sym w.if-symmetrises.ensures)
       | else-self-via-else-self w ↦ and_right (symmetrises row.kind) (counting_among (pile_rows self)) (sym self.counted ∙ w.if-self.false)
     ] in
-    ap Err c.declined-then-too_large.ensures
+    ap Err c.new-then-too_large.ensures
     ∙ image_refused self.capacity (pile_rows self) row.kind row.parameter self.image c.len-at.result self.whole (rows_counted self ∙ sym c.len-at.ensures.value) (not-true (parameter_outside row.kind self.image row.parameter) (sym c.if-not-in_range.ensures)) unmixed (sym c.if-too_large.ensures)

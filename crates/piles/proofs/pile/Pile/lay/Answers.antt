@@ -14,14 +14,14 @@ pub returns-then-is_full : goal.returns-then-is_full
 returns-then-is_full c =
     let p = c.args.self.now in
     let e = ninth_refused p.capacity (pile_rows p) c.args.kind c.args.parameter (pile_full p c.if-is_full.ensures.value) in
-    record { answer = ap Err c.declined.ensures ∙ ap checked (sym e); capacity = refl; rows = ap (kept_or (pile_rows p)) (sym e) }
+    record { answer = ap Err c.new.ensures ∙ ap checked (sym e); capacity = refl; rows = ap (kept_or (pile_rows p)) (sym e) }
 
 pub returns-in_default : goal.returns-in_default
 returns-in_default c =
     let p = c.args.self.now in
     let few = room_left p c.if-is_full.ensures.value in
     let e = kind_unknown p.capacity (pile_rows p) c.args.kind c.args.parameter few c.in_default.ensures.0 in
-    record { answer = ap Err c.declined-in_default.ensures ∙ ap (λ n. Err (fault Parameter Pile n)) (c.len.ensures.value ∙ sym (rows_counted p)) ∙ ap checked (sym e); capacity = refl; rows = ap (kept_or (pile_rows p)) (sym e) }
+    record { answer = ap Err c.new-in_default.ensures ∙ ap (λ n. Err (fault Parameter Pile n)) (c.len.ensures.value ∙ sym (rows_counted p)) ∙ ap checked (sym e); capacity = refl; rows = ap (kept_or (pile_rows p)) (sym e) }
 
 pub returns-in_err-check_row : goal.returns-in_err-check_row
 returns-in_err-check_row c =
