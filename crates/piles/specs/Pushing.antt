@@ -8,7 +8,7 @@ use Rattle.arrayvec.specs.ArrayVec.{array_vec_len}
 use Rattle.piles.specs.Kinds.{symmetrises, counts}
 use Rattle.piles.specs.Layered.{image_over_kind, image_of}
 use Rattle.piles.specs.Laying.{counting_among}
-use Rattle.piles.specs.Standing.{rows_of, accepted, stands, unmixed, plain, top_at, topmost}
+use Rattle.piles.specs.Standing.{rows_of, stands, unmixed, plain, top_at, topmost}
 use Rattle.piles.specs.Contents.{pile_rows}
 use Rattle.piles.specs.declared.pile.Pile.{Pile}
 use Rattle.piles.specs.declared.rows.Row.{Row}
@@ -30,12 +30,11 @@ pub counting_push : (rows : List Row) (row : Row) → counting_among (rows ++ ro
 counting_push [] row = or_nothing (counts row.kind)
 counting_push (r ∷ rows) row = ap (λ b. counts r.kind || b) (counting_push rows row) ∙ sym (or_assoc (counts r.kind) (counting_among rows) (counts row.kind))
 
-pub stands_push : (d : ℕ) (steps : List Step) (step : Step) → stands d steps ≡ true → step.below ≡ image_of d (rows_of steps) → accepted step.row.kind (image_of d (rows_of steps)) step.row.parameter ≡ true
-    → stands d (steps ++ step ∷ []) ≡ true
-stands_push d [] step h e a = rw (eq-eqb step.below d e, a) refl
-stands_push d (s ∷ steps) step h e a =
-    let p = and_parts (s.below == d && accepted s.row.kind d s.row.parameter) (stands (image_over_kind s.row.kind d s.row.parameter) steps) h in
-    and_from _ _ p.0 (stands_push (image_over_kind s.row.kind d s.row.parameter) steps step p.1 e a)
+pub stands_push : (d : ℕ) (steps : List Step) (step : Step) → stands d steps ≡ true → step.below ≡ image_of d (rows_of steps) → stands d (steps ++ step ∷ []) ≡ true
+stands_push d [] step h e = rw (eq-eqb step.below d e) refl
+stands_push d (s ∷ steps) step h e =
+    let p = and_parts (s.below == d) (stands (image_over_kind s.row.kind d s.row.parameter) steps) h in
+    and_from _ _ p.0 (stands_push (image_over_kind s.row.kind d s.row.parameter) steps step p.1 e)
 
 lowest_unmixed : (a b : Bool) → (a && (b || false)) ≡ false → (not (a && b) && true) ≡ true
 lowest_unmixed true true e = absurd (true≢false e)

@@ -12,8 +12,8 @@ use Rattle.dual_feasible.specs.Laws.{greatest}
 use Rattle.piles.specs.Contents.{pile_rows}
 use Rattle.piles.specs.Kinds.{kind_number, kind_of, symmetrises, counts}
 use Rattle.piles.specs.Layered.{image_of}
-use Rattle.piles.specs.Laying.{most_rows, parameter_outside, image_outside, counting_among, row_laid, laid, all_laid, pile_made, pile_of}
-use Rattle.piles.specs.Standing.{rows_of, accepted, stands, unmixed}
+use Rattle.piles.specs.Laying.{most_rows, parameter_outside, image_outside, accepted, counting_among, row_laid, laid, all_laid, pile_made, pile_of}
+use Rattle.piles.specs.Standing.{rows_of, stands, unmixed}
 use Rattle.piles.specs.declared.pile.Pile.{Pile}
 use Rattle.piles.specs.declared.rows.Kind.{Kind}
 use Rattle.piles.specs.declared.rows.Kind.TheVariants.{Threshold, Rounding, Division, Counting, Symmetrisation, Scaling}

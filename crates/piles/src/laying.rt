@@ -5,10 +5,10 @@ ghost use Rattle.dual_feasible.specs.Laws.{greatest};
 ghost use Rattle.faults.specs.Faults.{outcome, checked, kept_or};
 ghost use Rattle.piles.specs.Contents.{pile_rows};
 ghost use Rattle.piles.specs.Kinds.{symmetrises, counts};
-ghost use Rattle.piles.specs.Laying.{pile_made, pile_of, laid, parameter_outside, image_outside, counting_among, row_laid};
+ghost use Rattle.piles.specs.Laying.{pile_made, pile_of, laid, parameter_outside, image_outside, accepted, counting_among, row_laid};
 ghost use Rattle.piles.specs.Plain.{rows_in};
 ghost use Rattle.piles.specs.Layered.{image_over_kind};
-ghost use Rattle.piles.specs.Standing.{accepted, topmost};
+ghost use Rattle.piles.specs.Standing.{topmost};
 
 use crate::pile::Pile;
 use crate::rows::{Kind, MOST_ROWS, Row, Rows, Step};
@@ -32,6 +32,7 @@ impl Kind {
     }
 }
 
+// A step's row is accepted, so a row that is not yet is asked with the image capacity beside it.
 impl Row {
     // Whether the parameter is in its range, over an image capacity.
     fn in_range(self, below: u64) -> bool
@@ -40,11 +41,11 @@ impl Row {
         let parameter = self.parameter;
         match self.kind {
             Kind::Threshold => parameter <= below / 2,
-            Kind::Rounding => parameter >= 1 && parameter <= 1_000,
-            Kind::Division => parameter >= 1 && parameter <= below,
-            Kind::Counting => parameter >= 1 && parameter <= below / 2,
+            Kind::Rounding => (1..=1_000).contains(&parameter),
+            Kind::Division => (1..=below).contains(&parameter),
+            Kind::Counting => (1..=below / 2).contains(&parameter),
             Kind::Symmetrisation => parameter == 0,
-            Kind::Scaling => parameter >= 1 && parameter <= GREATEST,
+            Kind::Scaling => (1..=GREATEST).contains(&parameter),
         }
     }
 
@@ -60,18 +61,20 @@ impl Row {
             _ => false,
         }
     }
+}
 
-    // The image capacity of the row, laid over an image capacity.
-    fn image_over(self, below: u64) -> u64
-        requires { accepted self.kind below self.parameter ≡ true }
-        ensures { result ≡ image_over_kind self.kind below self.parameter }
+impl Step {
+    // The image capacity of the row.
+    fn image(self) -> u64
+        ensures { result ≡ image_over_kind self.row.kind self.below self.row.parameter }
     {
-        match self.kind {
-            Kind::Threshold => below,
-            Kind::Rounding => below * self.parameter,
-            Kind::Division | Kind::Counting => below / self.parameter,
-            Kind::Symmetrisation => 2 * below,
-            Kind::Scaling => self.parameter,
+        let parameter = self.row.parameter;
+        match self.row.kind {
+            Kind::Threshold => self.below,
+            Kind::Rounding => self.below * parameter,
+            Kind::Division | Kind::Counting => self.below / parameter,
+            Kind::Symmetrisation => 2 * self.below,
+            Kind::Scaling => parameter,
         }
     }
 }
@@ -137,12 +140,12 @@ impl Pile {
         ensures capacity { self.new.capacity ≡ self.old.capacity }
         ensures rows { pile_rows self.new ≡ pile_rows self.old ++ row ∷ [] }
     {
+        let below = self.image;
+        let step = Step { row, below };
         let mirror = self.mirror_with(row);
         let counting = self.counting_with(row);
-        let image = row.image_over(self.image);
-        let below = self.image;
-        self.steps.push(Step { row, below });
-        self.image = image;
+        self.steps.push(step);
+        self.image = step.image();
         self.mirror = mirror;
         self.counting = counting;
     }

@@ -1,5 +1,7 @@
 // Rows: a kind of function or layer, and its parameter.
-ghost use Rattle.std.specs.Prelude.{◌≡◌, ◌≤◌, [], length};
+ghost use Rattle.std.specs.Prelude.{◌≡◌, ◌≤◌, true, [], length};
+ghost use Rattle.dual_feasible.specs.Laws.{InRange};
+ghost use Rattle.piles.specs.Laying.{accepted};
 ghost use Rattle.piles.specs.Plain.{rows_in};
 ghost use Rattle.piles.specs.Kinds.{kind_number, Numbers};
 
@@ -11,6 +13,7 @@ pub(crate) const MOST_ROWS: usize = 8;
 // What a row lays on those below it.
 #[derive(Clone, Copy, Default, PartialEq, Eq, Debug)]
 pub enum Kind {
+    // in a row that stands in an unused place
     #[default]
     Threshold,
     Rounding,
@@ -38,10 +41,22 @@ pub struct Rows {
 }
 
 // A row that is laid, with the image capacity beneath it, so that a value costs one walk over the rows.
-#[derive(Clone, Copy, Default)]
+#[derive(Clone, Copy)]
 pub(crate) struct Step {
     pub(crate) row: Row,
     pub(crate) below: u64,
+    ghost limits: { InRange below },
+    ghost accepted: { accepted row.kind below row.parameter ≡ true },
+}
+
+// What a table of steps holds in its unused places.
+impl Default for Step {
+    fn default() -> Step {
+        Step {
+            row: Row::default(),
+            below: 1,
+        }
+    }
 }
 
 // The kind's number, from 1 to 6.

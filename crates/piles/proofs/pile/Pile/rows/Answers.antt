@@ -5,27 +5,26 @@ use Rattle.piles.specs.Relaying.{pile_again}
 use Rattle.piles.specs.Standing.{rows_of}
 use Rattle.piles.specs.declared.rows.Row.{Row}
 use Rattle.piles.specs.declared.rows.Step.{Step}
-use Rattle.piles.proofs.Climbing.{no_step}
 use Rattle.piles.proofs.pile.Pile.rows.Goals as goal
 
 -- the rows so far are those of the first i steps
-module _ (steps : List Step) (i : ℕ) (rows : List Row) (so_far : rows ≡ rows_of (take i steps)) where
-  room : length steps ≤ 8 → i < length steps → length rows < 8
-  room few h = omega (arith, ap length so_far, length-map (take i steps) (λ (step : Step). step.row), length-take-le i steps (omega arith))
+module _ (steps : List Step) (i : ℕ) (inside : i < length steps) (rows : List Row) (so_far : rows ≡ rows_of (take i steps)) where
+  room : length steps ≤ 8 → length rows < 8
+  room few = omega (arith, ap length so_far, length-map (take i steps) (λ (step : Step). step.row), length-take-le i steps (omega arith))
 
-  one_more : i < length steps → rows ++ (get_or steps i no_step).row ∷ [] ≡ rows_of (take (i + 1) steps)
-  one_more h = ap (λ xs. xs ++ (get_or steps i no_step).row ∷ []) so_far ∙ sym (map_more (λ (step : Step). step.row) steps i no_step h)
+  one_more : (step : Step) → step ≡ get_or steps i step → rows ++ step.row ∷ [] ≡ rows_of (take (i + 1) steps)
+  one_more step is = ap (λ xs. xs ++ step.row ∷ []) so_far ∙ ap (λ (x : Step). rows_of (take i steps) ++ x.row ∷ []) is ∙ sym (map_more (λ (x : Step). x.row) steps i step inside)
 
 pub push-requires : goal.push-requires
 push-requires c =
     let p = c.args.self.now in
-    let few : length c.loop-step.rows.rows.items < 8 = room p.steps.items c.loop-step.step-index c.loop-step.rows.rows.items c.loop-step.invariant p.few (rw (sym c.deref-step-items.ensures.0) c.loop-step-test.true) in
+    let few : length c.loop-step.rows.rows.items < 8 = room p.steps.items c.loop-step.step-index (rw (sym c.deref-step-items.ensures.0) c.loop-step-test.true) c.loop-step.rows.rows.items c.loop-step.invariant p.few in
     (search rules, few)
 
 pub loop-step-preserved : goal.loop-step-preserved
 loop-step-preserved c =
     let p = c.args.self.now in
-    c.push.ensures.items ∙ rw c.deref-step-items.ensures.0 (one_more p.steps.items c.loop-step.step-index c.loop-step.rows.rows.items c.loop-step.invariant (rw (sym c.deref-step-items.ensures.0) c.loop-step-test.true))
+    c.push.ensures.items ∙ one_more p.steps.items c.loop-step.step-index (rw (sym c.deref-step-items.ensures.0) c.loop-step-test.true) c.loop-step.rows.rows.items c.loop-step.invariant c.step-item.result (rw (sym c.deref-step-items.ensures.0) c.step-item.is)
 
 pub returns : goal.returns
 returns c =
