@@ -14,11 +14,7 @@ fn told<B: Bounder>(bounder: &B, list: &[u64]) -> Result<u64, Fault> {
 
 // A refusal of this layer.
 fn refused(refusal: Refusal, figure: u64) -> Fault {
-    Fault {
-        refusal,
-        layer: Layer::Bound,
-        figure,
-    }
+    Fault::new(refusal, Layer::Bound, figure)
 }
 
 #[test]
@@ -46,14 +42,7 @@ fn the_greater_of_two(rt: HostRuntime) -> Result<(), Fail> {
 
 #[test]
 fn capacities_that_differ(rt: HostRuntime) -> Result<(), Fail> {
-    match Greater::new(Halves::new(10)?, Halves::new(11)?) {
-        Ok(_) => {
-            assert!(rt; false);
-            Ok(())
-        },
-        Err(fault) => {
-            assert_eq!(rt; fault, refused(Refusal::CapacitiesDiffer, 11));
-            Ok(())
-        },
-    }
+    let answer = Greater::new(Halves::new(10)?, Halves::new(11)?);
+    assert_eq!(rt; answer.err(), Some(refused(Refusal::CapacitiesDiffer, 11)));
+    Ok(())
 }

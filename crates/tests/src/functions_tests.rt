@@ -1,7 +1,5 @@
 // Values, refusals and bounds of the functions.
-ghost use Rattle.std.specs.Prelude.{◌≡◌, Err};
-ghost use Rattle.faults.specs.Faults.{fault, outcome};
-
+use crate::examples::{four, made, refused};
 use bounds::lower_bound;
 use dual_feasible::{DualFeasible, Superadditive};
 use faults::{Fault, Layer, Refusal};
@@ -12,33 +10,6 @@ use functions::identity::Identity;
 use functions::rounding::Rounding;
 use functions::threshold::Threshold;
 use std::test::Fail;
-
-// The values at four sizes.
-fn four<F: DualFeasible>(f: &F, sizes: [u64; 4]) -> Result<[u64; 4], Fault> {
-    let [a, b, c, d] = sizes;
-    Ok([f.value(a)?, f.value(b)?, f.value(c)?, f.value(d)?])
-}
-
-// That a function was made, without the function.
-fn made<F: Drop>(answer: Result<F, Fault>) -> Result<(), Fault>
-    ensures { result ≡ outcome (λ _. tt) answer }
-{
-    match answer {
-        Ok(_) => Ok(()),
-        Err(fault) => Err(fault),
-    }
-}
-
-// A refusal of the functions' layer.
-fn refused(refusal: Refusal, figure: u64) -> Result<(), Fault>
-    ensures { result ≡ Err (fault refusal Layer.Function figure) }
-{
-    Err(Fault {
-        refusal,
-        layer: Layer::Function,
-        figure,
-    })
-}
 
 #[test]
 fn values(rt: HostRuntime) -> Result<(), Fail> {
@@ -104,19 +75,11 @@ fn sizes_in_range(rt: HostRuntime) -> Result<(), Fail> {
     assert_eq!(rt; identity.value(10), Ok(10));
     assert_eq!(rt;
         identity.value(11),
-        Err(Fault {
-            refusal: Refusal::Size,
-            layer: Layer::Function,
-            figure: 11,
-        })
+        Err(Fault::new(Refusal::Size, Layer::Function, 11))
     );
     assert_eq!(rt;
         identity.value(u64::MAX),
-        Err(Fault {
-            refusal: Refusal::Size,
-            layer: Layer::Function,
-            figure: u64::MAX,
-        })
+        Err(Fault::new(Refusal::Size, Layer::Function, u64::MAX))
     );
     Ok(())
 }
@@ -131,19 +94,11 @@ fn bounds_of_lists(rt: HostRuntime) -> Result<(), Fail> {
     assert_eq!(rt; lower_bound(&identity, &[10; 64]), Ok(64));
     assert_eq!(rt;
         lower_bound(&identity, &[11; 65]),
-        Err(Fault {
-            refusal: Refusal::TooMany,
-            layer: Layer::Bound,
-            figure: 64,
-        })
+        Err(Fault::new(Refusal::TooMany, Layer::Bound, 64))
     );
     assert_eq!(rt;
         lower_bound(&identity, &[10, 0, 11, 12]),
-        Err(Fault {
-            refusal: Refusal::Size,
-            layer: Layer::Bound,
-            figure: 2,
-        })
+        Err(Fault::new(Refusal::Size, Layer::Bound, 2))
     );
     Ok(())
 }

@@ -1,7 +1,5 @@
 // Values and refusals of the layers.
-ghost use Rattle.std.specs.Prelude.{◌≡◌, Err};
-ghost use Rattle.faults.specs.Faults.{fault, outcome};
-
+use crate::examples::{four, made, refused};
 use dual_feasible::DualFeasible;
 use faults::{Fault, Layer, Refusal};
 use foreign::stacked::{scaled_counting, symmetrised_division};
@@ -14,33 +12,6 @@ use layers::composition::Composition;
 use layers::scaling::Scaling;
 use layers::symmetrisation::Symmetrisation;
 use std::test::Fail;
-
-// The values at four sizes.
-fn four<F: DualFeasible>(f: &F, sizes: [u64; 4]) -> Result<[u64; 4], Fault> {
-    let [a, b, c, d] = sizes;
-    Ok([f.value(a)?, f.value(b)?, f.value(c)?, f.value(d)?])
-}
-
-// That a function was made, without the function.
-fn made<F: Drop>(answer: Result<F, Fault>) -> Result<(), Fault>
-    ensures { result ≡ outcome (λ _. tt) answer }
-{
-    match answer {
-        Ok(_) => Ok(()),
-        Err(fault) => Err(fault),
-    }
-}
-
-// A refusal of the functions' layer.
-fn refused(refusal: Refusal, figure: u64) -> Result<(), Fault>
-    ensures { result ≡ Err (fault refusal Layer.Function figure) }
-{
-    Err(Fault {
-        refusal,
-        layer: Layer::Function,
-        figure,
-    })
-}
 
 #[test]
 fn values_of_layers(rt: HostRuntime) -> Result<(), Fail> {

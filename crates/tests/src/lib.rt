@@ -4,6 +4,8 @@
 #[cfg(test)]
 mod bounders_tests;
 #[cfg(test)]
+mod examples;
+#[cfg(test)]
 mod functions_tests;
 #[cfg(test)]
 mod layers_tests;
