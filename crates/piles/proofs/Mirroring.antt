@@ -155,3 +155,6 @@ module _ (p : Pile) (top : ℕ) (is : p.mirror ≡ Some top) where
         carried_up s (2 * step.below - 2 * n)
         (rw (le-ltb (2 * s) p.capacity above, ne_eqb (2 * s) p.capacity other) (ap (λ m. 2 * step.below - 2 * m) (low_value (p.capacity - s) n (mirrors s above other h) e)))
         (omega arith)
+
+-- for the goals of the walk around the topmost symmetrisation
+pub ruleset around_top = (inside, low_climbs, low_fits, mirrors)

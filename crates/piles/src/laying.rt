@@ -5,7 +5,7 @@ ghost use Rattle.dual_feasible.specs.Laws.{greatest};
 ghost use Rattle.faults.specs.Faults.{outcome, checked, kept_or};
 ghost use Rattle.piles.specs.Contents.{pile_rows};
 ghost use Rattle.piles.specs.Kinds.{symmetrises, counts};
-ghost use Rattle.piles.specs.Laying.{pile_made, pile_of, laid, parameter_outside, image_outside, accepted, counting_among, row_laid};
+ghost use Rattle.piles.specs.Laying.{most_rows, pile_made, pile_of, laid, parameter_outside, image_outside, accepted, counting_among, row_laid};
 ghost use Rattle.piles.specs.Plain.{rows_in};
 ghost use Rattle.piles.specs.Layered.{image_over_kind};
 ghost use Rattle.piles.specs.Standing.{topmost};
@@ -113,6 +113,7 @@ impl Pile {
     }
 
     // The topmost symmetrisation, with one row more on top.
+    #[tactic(auto, using(crate::proofs::OneMore::one_more))]
     fn mirror_with(&self, row: Row) -> Option<usize>
         ensures { topmost result (pile_rows self.now ++ row ∷ []) ≡ true }
     {
@@ -123,6 +124,7 @@ impl Pile {
     }
 
     // Whether a row counts, with one row more on top.
+    #[tactic(auto, using(crate::proofs::OneMore::one_more))]
     fn counting_with(&self, row: Row) -> bool
         ensures { result ≡ counting_among (pile_rows self.now ++ row ∷ []) }
     {
@@ -133,8 +135,9 @@ impl Pile {
     }
 
     // One row more, which the checks have accepted.
+    #[tactic(auto, using(crate::proofs::OneMore::one_more))]
     fn push(&mut self, row: Row)
-        requires few { array_vec_len self.old.steps < 8 }
+        requires few { array_vec_len self.old.steps < most_rows }
         requires accepted { accepted row.kind self.old.image row.parameter ≡ true }
         requires apart { (symmetrises row.kind && self.old.counting) ≡ false }
         ensures capacity { self.new.capacity ≡ self.old.capacity }

@@ -96,7 +96,7 @@ fn climb(steps: &[Step], start: u64) -> u64
 impl Pile {
     // The value of the topmost symmetrisation, row `top`, which the steps above it carry up. The steps beneath it are asked
     // below half the capacity alone, where every symmetrisation among them only doubles.
-    #[tactic(auto, using(crate::proofs::Mirroring::inside))]
+    #[tactic(auto, using(crate::proofs::Mirroring::around_top))]
     fn mirrored(&self, top: usize, size: u64) -> u64
         requires top { self.now.mirror ≡ Some top }
         requires size { size ≤ self.now.capacity }
@@ -116,7 +116,7 @@ impl Pile {
     }
 
     // The value of all rows at a size up to the capacity. The topmost symmetrisation alone has to mirror.
-    #[tactic(auto, using(crate::proofs::Mirroring::inside))]
+    #[tactic(auto, using(crate::proofs::Mirroring::inside, crate::proofs::Climbing::values_climbed))]
     fn stacked(&self, size: u64) -> u64
         requires { size ≤ self.now.capacity }
         ensures { result ≡ layered self.now.capacity (pile_rows self.now) size }

@@ -1,20 +1,12 @@
-use Rattle.std.proofs.Common.{◌-◌, sym, arith}
+use Rattle.std.proofs.Common.{sym, arith}
 use Rattle.std.proofs.lemmas.List.{length-take-le}
-use Rattle.piles.proofs.Mirroring.{inside, low_climbs, low_fits, below_half, at_half, mirrors, above_half}
+use Rattle.piles.proofs.Mirroring.{inside, below_half, at_half, above_half}
 use Rattle.piles.proofs.pile.Pile.mirrored.Goals as goal
 
 pub slice_bounds-beneath-end : goal.slice_bounds-beneath-end
 slice_bounds-beneath-end c =
     let h = inside c.args.self.now c.args.top c.requires.top in
     rw c.as_slice-steps.ensures.value (sym (length-take-le c.args.top c.args.self.now.steps.items (omega arith)))
-
-pub climb-requires : goal.climb-requires
-climb-requires c = rw c.as_slice-steps.ensures.value (low_climbs c.args.self.now c.args.top c.requires.top c.index-steps-top.result c.args.size c.requires.size)
-
-pub overflow_mul-result : goal.overflow_mul-result
-overflow_mul-result c =
-    let f = low_fits c.args.self.now c.args.top c.requires.top c.index-steps-top.result c.args.size c.climb.result c.if-size-self.true (rw c.as_slice-steps.ensures.value at c.climb.ensures) in
-    omega arith
 
 pub returns-then-size-self : goal.returns-then-size-self
 returns-then-size-self c =
@@ -25,22 +17,6 @@ pub returns-then-size-self-2 : goal.returns-then-size-self-2
 returns-then-size-self-2 c =
     let r = at_half c.args.self.now c.args.top c.requires.top c.index-steps-top.result c.args.size c.if-size-self-2.true in
     rw c.as_slice-steps.ensures.value (record { climbs = r.0; value = r.1 })
-
-pub climb-requires-2 : goal.climb-requires-2
-climb-requires-2 c = rw c.as_slice-steps.ensures.value (low_climbs c.args.self.now c.args.top c.requires.top c.index-steps-top.result (c.args.self.now.capacity - c.args.size) (omega arith))
-
-pub overflow_mul-result-3 : goal.overflow_mul-result-3
-overflow_mul-result-3 c =
-    let p = c.args.self.now in
-    let half = mirrors p c.args.top c.requires.top c.index-steps-top.result c.args.size c.if-size-self.false c.if-size-self-2.false c.requires.size in
-    let f = low_fits p c.args.top c.requires.top c.index-steps-top.result (p.capacity - c.args.size) c.climb-2.result half (rw c.as_slice-steps.ensures.value at c.climb-2.ensures) in
-    omega arith
-
-pub overflow_sub-result : goal.overflow_sub-result
-overflow_sub-result c =
-    let p = c.args.self.now in
-    let half = mirrors p c.args.top c.requires.top c.index-steps-top.result c.args.size c.if-size-self.false c.if-size-self-2.false c.requires.size in
-    rw c.as_slice-steps.ensures.value (low_fits p c.args.top c.requires.top c.index-steps-top.result (p.capacity - c.args.size) c.climb-2.result half (rw c.as_slice-steps.ensures.value at c.climb-2.ensures)).0
 
 pub returns : goal.returns
 returns c =
