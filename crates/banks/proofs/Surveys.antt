@@ -1,15 +1,21 @@
 -- The walk over a bank's piles.
-use Rattle.std.proofs.Common.{◌≡◌, ℕ, zero, suc, ◌+◌, ◌<◌, ◌≤◌, max, cond, leb, true, ◌⊎◌, List, [], ◌∷◌, map, length, get_or, drop, is_ok, Some, None, Option, sym, refl, ap, ◌∙◌, inl, inr, ⊎_elim, arith}
+use Rattle.std.proofs.Common.{◌≡◌, ℕ, zero, suc, ◌+◌, ◌<◌, ◌≤◌, max, cond, leb, true, ◌⊎◌, List, [], ◌∷◌, map, length, get_or, drop, is_ok, Some, None, Ok, Err, Option, Result, sym, refl, ap, ◌∙◌, inl, inr, ⊎_elim, arith}
 use Rattle.std.specs.Option.{MatchOption, IsSomeAnd}
+use Rattle.std.specs.Result.{IsErrAnd}
 use Rattle.std.proofs.lemmas.List.{get_or-map, length-map, at_drop_more}
 use Rattle.std.proofs.lemmas.Bool.{cases_lt, and_parts, eq-eqb, ne_eqb, le-leb, lt-leb}
+use Rattle.faults.specs.declared.Fault.{Fault}
+use Rattle.bounds.specs.Bounds.{asked_of}
+use Rattle.bounds.proofs.Entries.{asked_refused, asked_answered}
 use Rattle.piles.specs.Laying.{pile_of}
 use Rattle.piles.specs.Plain.{rows_in}
 use Rattle.piles.specs.declared.rows.Row.{Row}
 use Rattle.piles.specs.declared.rows.Rows.{Rows}
-use Rattle.banks.specs.Banks.{pile_bound, pile_bounds, all_made}
+use Rattle.banks.specs.Banks.{pile_bound, pile_bounds, surveyed, all_made}
 use Rattle.banks.specs.Best.{greatest_of, first_with, best_of, better, findings}
+use Rattle.banks.specs.Contents.{bank_piles}
 use Rattle.banks.specs.declared.asking.Best.{Best}
+use Rattle.banks.specs.declared.bank.Bank.{Bank}
 
 cases_le : (m n : ℕ) → (m ≤ n) ⊎ (n < m)
 cases_le m n = ⊎_elim (λ (h : n < m). inr h) (λ (h : m ≤ n). inl h) (cases_lt n m)
@@ -94,3 +100,14 @@ pile_found (Some b) P None given e = absurd e
 pub bound_found : (best : Option Best) (P : Best → Type 0) (r : ℕ) → ((b : Best) → P b → r ≡ b.bound) → MatchOption best (r ≡ 0) P → r ≡ (findings best).0
 bound_found None P r given e = e
 bound_found (Some b) P r given e = given b e
+
+-- what a survey says of every other question of the same list
+module _ (b : Bank) (list : List ℕ) {Y : Type 0} (other : List ℕ → Y) where
+  pub survey_refused : (f : Fault) (r : Result Y Fault) → Err f ≡ asked_of b.capacity (surveyed b.capacity (bank_piles b)) list → IsErrAnd r (λ g. g ≡ f) → r ≡ asked_of b.capacity other list
+  survey_refused f (Err g) e same = ap Err same ∙ asked_refused b.capacity (surveyed b.capacity (bank_piles b)) other list f e
+  survey_refused f (Ok y) e same = absurd same
+
+  pub survey_told : (best : Option Best) → Ok (findings best) ≡ asked_of b.capacity (surveyed b.capacity (bank_piles b)) list → (y : Y) → (findings best ≡ surveyed b.capacity (bank_piles b) list → y ≡ other list) → Ok y ≡ asked_of b.capacity other list
+  survey_told best e y is =
+      let a = asked_answered b.capacity (surveyed b.capacity (bank_piles b)) other list (findings best) e in
+      ap Ok (is a.0) ∙ sym a.1

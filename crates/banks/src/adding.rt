@@ -26,6 +26,7 @@ impl Bank {
 
     // One pile more: refusal 5 with its capacity where that is not the bank's, then 6 for a ninth. A refused pile leaves the
     // bank as it was.
+    #[tactic(auto, using(crate::proofs::OneMore::one_more))]
     pub fn add(&mut self, pile: &Pile) -> Result<(), Fault>
         ensures answer { result ≡ checked (pile_added self.old.capacity (bank_piles self.old) pile.now.capacity (pile_rows pile.now)) }
         ensures capacity { self.new.capacity ≡ self.old.capacity }
