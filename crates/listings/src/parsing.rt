@@ -83,7 +83,7 @@ impl Listing {
         let Some(mut pile) = self.pile.take() else {
             return Err(malformed(at));
         };
-        let answer = pile.lay(kind.number(), parameter);
+        let answer = pile.lay(u64::from(kind), parameter);
         self.pile = Some(pile);
         answer
     }

@@ -31,4 +31,4 @@ module _ (cuts : List ℕ) (at n number : ℕ) (kind : Kind) (named : number ≡
 
 pub returns : goal.returns
 returns c =
-    row_answered (vec_items c.args.self.now.cuts) c.args.at c.args.parameter c.number.result c.args.kind c.number.ensures c.in-Some.pile c.lay-answer.new.self c.lay-answer.ensures.capacity c.args.self.now.pile c.lay-answer.result (sym c.in-Some.ensures.value) c.lay-answer.ensures.answer c.lay-answer.ensures.rows
+    row_answered (vec_items c.args.self.now.cuts) c.args.at c.args.parameter c.from.result c.args.kind c.from.ensures c.in-Some.pile c.lay-answer.new.self c.lay-answer.ensures.capacity c.args.self.now.pile c.lay-answer.result (sym c.in-Some.ensures.value) c.lay-answer.ensures.answer c.lay-answer.ensures.rows
