@@ -1,5 +1,5 @@
 -- A line that has an entry is the entry's word, a blank and the number's digits.
-use Rattle.std.proofs.Common.{◌≡◌, ℕ, suc, ◌+◌, ◌-◌, ◌*◌, ◌^◌, ◌<◌, ◌≤◌, Bool, true, false, not, ◌&&◌, ◌||◌, eqb, ltb, List, [], ◌∷◌, ◌++◌, length, get_or, take, drop, Some, None, decimal, Option, sym, refl, ap, ◌∙◌, ⊎_elim, mul_comm, one-add, arith, rules}
+use Rattle.std.proofs.Common.{◌≡◌, ℕ, suc, ◌+◌, ◌-◌, ◌*◌, ◌^◌, ◌<◌, ◌≤◌, true, false, not, ◌&&◌, ◌||◌, eqb, ltb, List, [], ◌∷◌, ◌++◌, length, get_or, take, drop, Some, None, decimal, Option, sym, codes, refl, ap, ◌∙◌, ⊎_elim, mul_comm, one-add, arith, rules}
 use Rattle.std.specs.Char.{is_ascii_digit}
 use Rattle.std.specs.List.{prefix_len, AllByRecursion}
 use Rattle.std.specs.Str.{bytes_eq, all_ascii_digits}
@@ -9,26 +9,52 @@ use Rattle.std.proofs.lemmas.Slice.Eq.{bytes_eq-Decides}
 use Rattle.std.proofs.lemmas.Str.Parse.{IsNumeralModel, numerals_by_fold, digits_value_short}
 use Rattle.std.proofs.lemmas.Bool.{cases_Bool, cases_eq, both_ways, and_from, and_parts, or_parts, or_left, or_right, not_from_false, not-true, eqb-true, eqb-false, eq-eqb, ne_eqb, ltb-true, ltb-false, lt-ltb}
 use Rattle.std.proofs.lemmas.Bool.Decides.{nat_tests}
-use Rattle.lines.specs.declared.Kind.TheVariants.{Threshold, Rounding, Division, Counting}
+use Rattle.lines.specs.Words.{Words, spelled, kind_named}
+use Rattle.lines.specs.Told.{AreWords, unbroken}
 use Rattle.lines.specs.declared.Word.{Word}
 use Rattle.lines.specs.declared.Word.TheVariants.{Bar, Cut, Row}
-use Rattle.lines.specs.Lines.{spelling, words, spelled, word_of, digits_from, in_form, numeral, not_blank, both, entry_of}
+use Rattle.lines.specs.Lines.{spelling, row_of, word_of, digits_from, in_form, numeral, not_blank, both, entry_of}
 
 -- nothing is no answer
 no_answer : {X : Type 0} (x : X) → ◌≡◌ {A = Option X} None (Some x) → ⊥
 no_answer x e = let z : ◌≡◌ {A = ℕ} 0 1 = cc in omega arith
 
--- the word that a text spells is spelled so
-spelled_is : (text : List ℕ) (ws : List Word) (w : Word) → spelled text ws ≡ Some w → text ≡ spelling w
-spelled_is text [] w e = absurd (no_answer w e)
-spelled_is text (v ∷ ws) w e =
+-- the one of some things that a text spells is spelled so
+spelled_is : {X : Type 0} (spell : X → List ℕ) (text : List ℕ) (xs : List X) (x : X) → spelled spell text xs ≡ Some x → text ≡ spell x
+spelled_is spell text [] x e = absurd (no_answer x e)
+spelled_is spell text (y ∷ ys) x e =
     ⊎_elim
-    (λ (p : bytes_eq text (spelling v) ≡ true).
+    (λ (p : bytes_eq text (spell y) ≡ true).
     let f = rw p at e in
-    let same : v ≡ w = cc in
-    (bytes_eq-Decides text (spelling v)).0 p ∙ ap spelling same)
-    (λ (p : bytes_eq text (spelling v) ≡ false). spelled_is text ws w (rw p at e))
-    (cases_Bool (bytes_eq text (spelling v)))
+    let same : y ≡ x = cc in
+    (bytes_eq-Decides text (spell y)).0 p ∙ ap spell same)
+    (λ (p : bytes_eq text (spell y) ≡ false). spelled_is spell text ys x (rw p at e))
+    (cases_Bool (bytes_eq text (spell y)))
+
+row_named : {K : Type 0} (kinds : Words K) (text : List ℕ) (k : Option K) (w : Word K) → kind_named kinds text ≡ k → row_of k ≡ Some w → text ≡ spelling kinds w
+row_named kinds text None w is e = absurd (no_answer w e)
+row_named kinds text (Some k) w is e =
+    let same : Row k ≡ w = cc in
+    spelled_is kinds.word text kinds.kinds k is ∙ ap (spelling kinds) same
+
+-- the word that a text spells is spelled so
+word_is : {K : Type 0} (kinds : Words K) (text : List ℕ) (w : Word K) → word_of kinds text ≡ Some w → text ≡ spelling kinds w
+word_is kinds text w e =
+    ⊎_elim
+    (λ (p : bytes_eq text (codes "bar") ≡ true).
+    let f = rw p at e in
+    let same : Bar ≡ w = cc in
+    (bytes_eq-Decides text (codes "bar")).0 p ∙ ap (spelling kinds) same)
+    (λ (p : bytes_eq text (codes "bar") ≡ false).
+    let f = rw p at e in
+    ⊎_elim
+    (λ (q : bytes_eq text (codes "cut") ≡ true).
+    let g = rw q at f in
+    let same : Cut ≡ w = cc in
+    (bytes_eq-Decides text (codes "cut")).0 q ∙ ap (spelling kinds) same)
+    (λ (q : bytes_eq text (codes "cut") ≡ false). row_named kinds text (kind_named kinds text) w refl (rw q at f))
+    (cases_Bool (bytes_eq text (codes "cut"))))
+    (cases_Bool (bytes_eq text (codes "bar")))
 
 -- the number that digits write, after those that give n
 abbrev read_on : ℕ → List ℕ → ℕ
@@ -82,21 +108,22 @@ at_blank (b ∷ line) h =
     rw (next, more) (ap (λ rest. b ∷ rest) (at_blank line g)))
     (cases_Bool (eqb b 32))
 
-parts : (w : Option Word) (n : Option ℕ) (v : Word) (m : ℕ) → both w n ≡ Some (v, m) → (w ≡ Some v) × (n ≡ Some m)
+parts : {X : Type 0} (w : Option X) (n : Option ℕ) (v : X) (m : ℕ) → both w n ≡ Some (v, m) → (w ≡ Some v) × (n ≡ Some m)
 parts None n v m e = absurd (no_answer (v, m) e)
 parts (Some w) None v m e = absurd (no_answer (v, m) e)
-parts (Some w) (Some n) v m e =
-    let q : ◌≡◌ {A = Word × ℕ} (w, n) (v, m) = cc in
-    (ap (λ (p : Word × ℕ). Some p.0) q, ap (λ (p : Word × ℕ). Some p.1) q)
+parts {X} (Some w) (Some n) v m e =
+    let q : ◌≡◌ {A = X × ℕ} (w, n) (v, m) = cc in
+    (ap (λ (p : X × ℕ). Some p.0) q, ap (λ (p : X × ℕ). Some p.1) q)
 
 -- a line that has an entry is written so
-pub entry_written : (line : List ℕ) (w : Word) (n : ℕ) → entry_of line ≡ Some (w, n) → (line ≡ spelling w ++ (32 ∷ decimal n)) × (n < 10 ^ 10)
-entry_written line w n e =
+pub entry_written : {K : Type 0} (kinds : Words K) (line : List ℕ) (w : Word K) (n : ℕ) → entry_of kinds line ≡ Some (w, n)
+    → (line ≡ spelling kinds w ++ (32 ∷ decimal n)) × (n < 10 ^ 10)
+entry_written kinds line w n e =
     let k = prefix_len not_blank line in
-    let p = parts (word_of (take k line)) (numeral (drop (k + 1) line)) w n e in
-    let word = spelled_is (take k line) words w p.0 in
+    let p = parts (word_of kinds (take k line)) (numeral (drop (k + 1) line)) w n e in
+    let word = word_is kinds (take k line) w p.0 in
     let number = numeral_is (drop (k + 1) line) n p.1 in
-    (at_blank line number.1 ∙ ap (λ front. front ++ (32 ∷ drop (k + 1) line)) word ∙ ap (λ back. spelling w ++ (32 ∷ back)) number.0, number.2)
+    (at_blank line number.1 ∙ ap (λ front. front ++ (32 ∷ drop (k + 1) line)) word ∙ ap (λ back. spelling kinds w ++ (32 ∷ back)) number.0, number.2)
 
 digits_read : (n : ℕ) (ds : List ℕ) → all_ascii_digits ds ≡ true → digits_from n ds ≡ Some (read_on n ds)
 digits_read n [] e = refl
@@ -130,33 +157,26 @@ numeral_reads n h =
     let form = plain_form (decimal n) (decimal_nonempty n small) (length-decimal-le 10 n (omega arith) h small) (decimal_plain n small) in
     rw form (digits_read 0 (decimal n) (digits_decimal own n small) ∙ ap Some (digits_value-decimal own n small))
 
--- a line that is written so has that entry
-pub entry_reads : (w : Word) (n : ℕ) → n < 10 ^ 10 → entry_of (spelling w ++ (32 ∷ decimal n)) ≡ Some (w, n)
-entry_reads Bar n h = ap (both (Some Bar)) (numeral_reads n h)
-entry_reads Cut n h = ap (both (Some Cut)) (numeral_reads n h)
-entry_reads (Row Threshold) n h = ap (both (Some (Row Threshold))) (numeral_reads n h)
-entry_reads (Row Rounding) n h = ap (both (Some (Row Rounding))) (numeral_reads n h)
-entry_reads (Row Division) n h = ap (both (Some (Row Division))) (numeral_reads n h)
-entry_reads (Row Counting) n h = ap (both (Some (Row Counting))) (numeral_reads n h)
+-- what stands before the first blank and after it
+apart : (word rest : List ℕ) → unbroken word ≡ true
+    → (take (prefix_len not_blank (word ++ (32 ∷ rest))) (word ++ (32 ∷ rest)) ≡ word)
+    × (drop (prefix_len not_blank (word ++ (32 ∷ rest)) + 1) (word ++ (32 ∷ rest)) ≡ rest)
+apart [] rest e = (refl, refl)
+apart (b ∷ word) rest e =
+    let p = and_parts (not (eqb b 32)) (not (eqb b 10) && unbroken word) e in
+    let q = and_parts (not (eqb b 10)) (unbroken word) p.1 in
+    let h = apart word rest q.1 in
+    let k = prefix_len not_blank (word ++ (32 ∷ rest)) in
+    let next : prefix_len not_blank (b ∷ (word ++ (32 ∷ rest))) ≡ suc k = rw p.0 (one-add k) in
+    let more : suc k + 1 ≡ suc (k + 1) = omega arith in
+    (rw next (ap (λ bytes. b ∷ bytes) h.0), rw (next, more) h.1)
 
--- the test that no byte is a 10
-abbrev one_line : List ℕ → Bool
-one_line [] = true
-one_line (b ∷ bytes) = not (eqb b 10) && one_line bytes
-
-one_line_all : (bytes : List ℕ) → one_line bytes ≡ true → AllByRecursion (λ b. b ≡ 10 → ⊥) bytes
-one_line_all [] e = tt
-one_line_all (b ∷ bytes) e =
-    let p = and_parts (not (eqb b 10)) (one_line bytes) e in
-    (eqb-false b 10 (not-true (eqb b 10) p.0), one_line_all bytes p.1)
-
-spelling_one_line : (w : Word) → one_line (spelling w) ≡ true
-spelling_one_line Bar = refl
-spelling_one_line Cut = refl
-spelling_one_line (Row Threshold) = refl
-spelling_one_line (Row Rounding) = refl
-spelling_one_line (Row Division) = refl
-spelling_one_line (Row Counting) = refl
+one_line : (bytes : List ℕ) → unbroken bytes ≡ true → AllByRecursion (λ b. b ≡ 10 → ⊥) bytes
+one_line [] e = tt
+one_line (b ∷ bytes) e =
+    let p = and_parts (not (eqb b 32)) (not (eqb b 10) && unbroken bytes) e in
+    let q = and_parts (not (eqb b 10)) (unbroken bytes) p.1 in
+    (eqb-false b 10 (not-true (eqb b 10) q.0), one_line bytes q.1)
 
 digits_one_line : (ds : List ℕ) → all_ascii_digits ds ≡ true → AllByRecursion (λ b. b ≡ 10 → ⊥) ds
 digits_one_line [] e = tt
@@ -164,7 +184,25 @@ digits_one_line (d ∷ ds) e =
     let p = and_parts (is_ascii_digit d) (all_ascii_digits ds) e in
     (λ z. both_ways (is_ascii_digit d) (ap is_ascii_digit z) p.0, digits_one_line ds p.1)
 
--- no line that is written so has a byte 10 in it
-pub entry_one_line : (w : Word) (n : ℕ) → n < 10 ^ 10 → AllByRecursion (λ b. b ≡ 10 → ⊥) (spelling w ++ (32 ∷ decimal n))
-entry_one_line w n h =
-    All-append (λ b. b ≡ 10 → ⊥) (spelling w) (32 ∷ decimal n) (one_line_all (spelling w) (spelling_one_line w)) (λ z. omega arith, digits_one_line (decimal n) (digits_decimal own n (omega arith)))
+module _ {K : Type 0} (kinds : Words K) (told : AreWords kinds) where
+  spelling_unbroken : (w : Word K) → unbroken (spelling kinds w) ≡ true
+  spelling_unbroken Bar = refl
+  spelling_unbroken Cut = refl
+  spelling_unbroken (Row k) = told.whole k
+
+  word_reads : (w : Word K) → word_of kinds (spelling kinds w) ≡ Some w
+  word_reads Bar = refl
+  word_reads Cut = refl
+  word_reads (Row k) = told.told k
+
+  -- a line that is written so has that entry
+  pub entry_reads : (w : Word K) (n : ℕ) → n < 10 ^ 10 → entry_of kinds (spelling kinds w ++ (32 ∷ decimal n)) ≡ Some (w, n)
+  entry_reads w n h =
+      let a = apart (spelling kinds w) (decimal n) (spelling_unbroken w) in
+      rw (a.0, a.1, word_reads w, numeral_reads n h)
+
+  -- no line that is written so has a byte 10 in it
+  pub entry_one_line : (w : Word K) (n : ℕ) → n < 10 ^ 10 → AllByRecursion (λ b. b ≡ 10 → ⊥) (spelling kinds w ++ (32 ∷ decimal n))
+  entry_one_line w n h =
+      All-append (λ b. b ≡ 10 → ⊥) (spelling kinds w) (32 ∷ decimal n) (one_line (spelling kinds w) (spelling_unbroken w))
+      (λ z. omega arith, digits_one_line (decimal n) (digits_decimal own n (omega arith)))

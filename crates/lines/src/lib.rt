@@ -2,53 +2,30 @@
 #![tactic(auto)]
 
 ghost use Rattle.std.specs.Prelude.{◌≡◌};
-ghost use Rattle.std.specs.List.{prefix_len};
-ghost use Rattle.std.specs.Str.{bytes_eq};
-ghost use Rattle.lines.specs.Lines.{word_of, in_form, numeral, not_blank, entry_of};
+ghost use Rattle.std.specs.List.{prefix_len, position};
+ghost use Rattle.lines.specs.Lines.{word_of, in_form, numeral, is_blank, not_blank, entry_of};
 
-// The function that a row names.
-#[derive(Clone, Copy)]
-pub enum Kind {
-    Threshold,
-    Rounding,
-    Division,
-    Counting,
-}
+use words::RowWords;
 
-// What a line begins with: `bar` gives the length of the bars, `cut` one piece, and any other word is a row, which names
-// a function to bound with.
-#[derive(Clone, Copy)]
-pub enum Word {
+pub mod words;
+
+// What a line begins with: `bar` gives the length of the bars, `cut` one piece, and any other word is a row of the kind
+// that it names.
+#[derive(Clone, Copy, PartialEq, Eq, Debug)]
+pub enum Word<K> {
     Bar,
     Cut,
-    Row(Kind),
-}
-
-// Whether two texts have the same bytes.
-fn same(text: &[u8], other: &[u8]) -> bool
-    ensures { result ≡ bytes_eq text.now other.now }
-{
-    text == other
+    Row(K),
 }
 
 // The word that the bytes spell.
-fn spelled_word(text: &[u8]) -> Option<Word>
-    ensures { result ≡ word_of text.now }
+fn spelled_word<W: RowWords>(text: &[u8]) -> Option<Word<W::Kind>>
+    ensures { result ≡ word_of W.words text.now }
 {
-    if same(text, b"bar") {
-        Some(Word::Bar)
-    } else if same(text, b"cut") {
-        Some(Word::Cut)
-    } else if same(text, b"threshold") {
-        Some(Word::Row(Kind::Threshold))
-    } else if same(text, b"rounding") {
-        Some(Word::Row(Kind::Rounding))
-    } else if same(text, b"division") {
-        Some(Word::Row(Kind::Division))
-    } else if same(text, b"counting") {
-        Some(Word::Row(Kind::Counting))
-    } else {
-        None
+    match text {
+        b"bar" => Some(Word::Bar),
+        b"cut" => Some(Word::Cut),
+        _ => W::named(text).map(|kind| Word::Row(kind)),
     }
 }
 
@@ -72,32 +49,35 @@ fn number(text: &[u8]) -> Option<u64>
     }
     let mut n: u64 = 0;
     for b in text {
-        if *b < b'0' || *b > b'9' {
+        if !b.is_ascii_digit() {
             return None;
         }
-        n = n * 10 + (*b - b'0') as u64;
+        n = n * 10 + u64::from(*b - b'0');
     }
     Some(n)
+}
+
+// The place of the first blank.
+fn first_blank(text: &[u8]) -> Option<usize>
+    ensures { result ≡ position is_blank text.now }
+{
+    text.iter().position(|b| *b == b' ')
 }
 
 // How many bytes stand before the first blank.
 fn before_blank(text: &[u8]) -> usize
     ensures { result ≡ prefix_len not_blank text.now }
 {
-    for (i, b) in text.iter().enumerate() {
-        if *b == b' ' {
-            return i;
-        }
-    }
-    text.len()
+    first_blank(text).unwrap_or(text.len())
 }
 
 // The word and the number of a line, without the byte 10 that ends it, or nothing where the line is out of form.
-pub fn entry(line: &[u8]) -> Option<(Word, u64)>
-    ensures { result ≡ entry_of line.now }
+pub fn entry<W: RowWords>(line: &[u8]) -> Option<(Word<W::Kind>, u64)>
+    ensures { result ≡ entry_of W.words line.now }
 {
     let (front, back) = line.split_at(before_blank(line));
-    let Some(word) = spelled_word(front) else {
+    // Word, blank and number are taken apart by `let .. else`, as everywhere in this project, and not by `?`.
+    let Some(word) = spelled_word::<W>(front) else {
         return None;
     };
     let [_, digits @ ..] = back else {

@@ -1,9 +1,8 @@
 -- What a whole text says.
 use Rattle.std.specs.Prelude.{ℕ, ◌+◌, cond, List, [], ◌∷◌, ◌++◌, length, Some, None, Ok, Err, Option, Result, ◌==◌, nat_lt}
 use Rattle.faults.specs.declared.Fault.{Fault}
-use Rattle.piles.specs.Contents.{pile_rows}
-use Rattle.piles.specs.declared.pile.Pile.{Pile}
-use Rattle.piles.specs.declared.rows.Row.{Row}
+use Rattle.lines.specs.Words.{Words}
+use Rattle.listings.specs.Laying.{Laying}
 use Rattle.listings.specs.declared.reading.Stop.{Stop}
 use Rattle.listings.specs.Listings.{Content, empty, malformed, line_read}
 
@@ -15,43 +14,44 @@ abbrev pub malformed_at_line : ℕ → Stop
 malformed_at_line l = stop (malformed l) l
 
 -- the content after line l, unless that line is refused
-abbrev pub go_on : Result Content Fault → ℕ → (Content → Result Content Stop) → Result Content Stop
+abbrev pub go_on : {Row : Type 0} → Result (Content Row) Fault → ℕ → (Content Row → Result (Content Row) Stop) → Result (Content Row) Stop
 go_on (Ok s) l next = next s
 go_on (Err f) l next = Err (stop f l)
 
 -- the content after the bytes to come, where the lines before have the content s, and line l has begun with the bytes
 -- `line`; a line ends with byte 10, and so does the text
-abbrev pub scanned : ℕ → Content → List ℕ → List ℕ → Result Content Stop
-scanned l s line [] = cond (length line == 0) (Ok s) (Err (malformed_at_line l))
-scanned l s line (b ∷ bytes) =
+abbrev pub scanned : {Kind Row : Type 0} → Words Kind → Laying Kind Row → ℕ → Content Row → List ℕ → List ℕ → Result (Content Row) Stop
+scanned words laying l s line [] = cond (length line == 0) (Ok s) (Err (malformed_at_line l))
+scanned words laying l s line (b ∷ bytes) =
     cond (b == 10)
-    (go_on (line_read l line s) l (λ t. scanned (l + 1) t [] bytes))
-    (scanned l s (line ++ b ∷ []) bytes)
+    (go_on (line_read words laying l line s) l (λ t. scanned words laying (l + 1) t [] bytes))
+    (scanned words laying l s (line ++ b ∷ []) bytes)
 
 -- the capacity of the bars, the sizes to cut and the rows to bound with
-pub record CuttingList : Type 0 where
+pub record CuttingList (Row : Type 0) : Type 0 where
   pub capacity : ℕ
   pub cuts : List ℕ
   pub rows : List Row
 
 -- a text with no `bar` line is refused at line 1
-abbrev pub with_bar : Option ℕ → Content → Result CuttingList Stop
+abbrev pub with_bar : {Row : Type 0} → Option ℕ → Content Row → Result (CuttingList Row) Stop
 with_bar None s = Err (malformed_at_line 1)
 with_bar (Some c) s = Ok (record { capacity = c; cuts = s.cuts; rows = s.rows })
 
-abbrev pub whole : Result Content Stop → Result CuttingList Stop
+abbrev pub whole : {Row : Type 0} → Result (Content Row) Stop → Result (CuttingList Row) Stop
 whole (Ok s) = with_bar s.bar s
 whole (Err e) = Err e
 
 -- the cutting list of a text that comes after the content s, or the first refusal in the order of its lines; more than 65,536
 -- bytes are refused at line 0
-abbrev pub list_from : Content → List ℕ → Result CuttingList Stop
-list_from s text = cond (nat_lt 65536 (length text)) (Err (malformed_at_line 0)) (whole (scanned 1 s [] text))
+abbrev pub list_from : {Kind Row : Type 0} → Words Kind → Laying Kind Row → Content Row → List ℕ → Result (CuttingList Row) Stop
+list_from words laying s text =
+    cond (nat_lt 65536 (length text)) (Err (malformed_at_line 0)) (whole (scanned words laying 1 s [] text))
 
-abbrev pub list_of : List ℕ → Result CuttingList Stop
-list_of text = list_from empty text
+abbrev pub list_of : {Kind Row : Type 0} → Words Kind → Laying Kind Row → List ℕ → Result (CuttingList Row) Stop
+list_of words laying text = list_from words laying empty text
 
--- what a call that reads a text leaves behind, where it answers the pile
-abbrev pub listed : Result Pile Stop → List ℕ → Result CuttingList Stop
-listed (Ok p) cuts = Ok (record { capacity = p.capacity; cuts = cuts; rows = pile_rows p })
-listed (Err e) cuts = Err e
+-- what a call that reads a text leaves behind, where it answers the rows
+abbrev pub listed : {R Row : Type 0} → (R → ℕ × List Row) → Result R Stop → List ℕ → Result (CuttingList Row) Stop
+listed seen (Ok r) cuts = Ok (record { capacity = (seen r).0; cuts = cuts; rows = (seen r).1 })
+listed seen (Err e) cuts = Err e

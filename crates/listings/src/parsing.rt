@@ -1,65 +1,51 @@
 // The lines of a text, one after the other.
 ghost use Rattle.std.specs.Prelude.{◌≡◌, IfOk};
-ghost use Rattle.faults.specs.Faults.{fault};
 ghost use Rattle.listings.specs.Listings.{content, bar_of, empty, left, malformed, cut_read, word_read, line_read};
 
 use crate::listing::Listing;
-use dual_feasible::DualFeasible;
+use crate::rows::Rows;
 use faults::{Fault, Layer, Refusal};
-use pile_lines::{Word, entry};
-use piles::pile::Pile;
-use piles::rows::Kind;
+use lines::{Word, entry};
 use std::alloc::{AllocError, Global};
 
 const MOST_CUTS: usize = 64;
-
-// A fault of this layer.
-fn declined(refusal: Refusal, figure: u64) -> Fault
-    ensures { result ≡ fault refusal Layer.Text figure }
-{
-    Fault {
-        refusal,
-        layer: Layer::Text,
-        figure,
-    }
-}
 
 // The fault of a line that is out of form or out of its place.
 pub fn malformed(line: u64) -> Fault
     ensures { result ≡ malformed line }
 {
-    declined(Refusal::Malformed, line)
+    Fault::new(Refusal::Malformed, Layer::Text, line)
 }
 
-impl Listing {
+impl<R: Rows> Listing<R> {
     // Nothing is read yet. All the room that a text can need is reserved here.
-    pub fn new(heap: Global) -> Result<Listing, AllocError>
-        ensures { IfOk result (λ l. content l ≡ empty) }
+    pub fn new(heap: Global) -> Result<Listing<R>, AllocError>
+        ensures { IfOk result (λ l. content R.seen l ≡ empty) }
     {
         let cuts = Vec::with_capacity(heap, MOST_CUTS)?;
-        Ok(Listing { pile: None, cuts })
+        Ok(Listing { rows: None, cuts })
     }
 
     // The line `bar N`, on line `at`: it comes once only.
     fn read_bar(&mut self, at: u64, number: u64) -> Result<(), Fault>
-        ensures { left result (content self.new) ≡ word_read at (bar_of self.old.pile) Word.Bar number (content self.old) }
+        ensures { left result (content R.seen self.new) ≡ word_read R.laying at (bar_of R.seen self.old.rows) Word.Bar number (content R.seen self.old) }
     {
-        if self.pile.is_some() {
+        if self.rows.is_some() {
             return Err(malformed(at));
         }
-        self.pile = Some(Pile::new(number)?);
+        self.rows = Some(R::begin(number)?);
         Ok(())
     }
 
     // One more cut, with the bar's capacity.
     fn add_cut(&mut self, capacity: u64, size: u64) -> Result<(), Fault>
-        ensures { left result (content self.new) ≡ cut_read capacity size (content self.old) }
+        ensures { left result (content R.seen self.new) ≡ cut_read capacity size (content R.seen self.old) }
     {
-        if size < 1 || size > capacity {
-            return Err(declined(Refusal::Size, size));
+        if !(1..=capacity).contains(&size) {
+            return Err(Fault::new(Refusal::Size, Layer::Text, size));
         }
         if self.cuts.len() >= MOST_CUTS {
-            return Err(declined(Refusal::TooMany, 64));
+            return Err(Fault::new(Refusal::TooMany, Layer::Text, 64));
         }
         self.cuts.push_reserved(size);
         Ok(())
@@ -67,30 +53,28 @@ impl Listing {
 
     // The line `cut N`, on line `at`.
     fn read_cut(&mut self, at: u64, size: u64) -> Result<(), Fault>
-        ensures { left result (content self.new) ≡ word_read at (bar_of self.old.pile) Word.Cut size (content self.old) }
+        ensures { left result (content R.seen self.new) ≡ word_read R.laying at (bar_of R.seen self.old.rows) Word.Cut size (content R.seen self.old) }
     {
-        let Some(pile) = &self.pile else {
+        let Some(rows) = &self.rows else {
             return Err(malformed(at));
         };
-        let (capacity, _) = pile.capacities();
+        let capacity = rows.bar();
         self.add_cut(capacity, size)
     }
 
     // The line of a row, on line `at`.
-    fn read_row(&mut self, at: u64, kind: Kind, parameter: u64) -> Result<(), Fault>
-        ensures { left result (content self.new) ≡ word_read at (bar_of self.old.pile) (Word.Row kind) parameter (content self.old) }
+    fn read_row(&mut self, at: u64, kind: R::Kind, parameter: u64) -> Result<(), Fault>
+        ensures { left result (content R.seen self.new) ≡ word_read R.laying at (bar_of R.seen self.old.rows) (Word.Row kind) parameter (content R.seen self.old) }
     {
-        let Some(mut pile) = self.pile.take() else {
+        let Some(rows) = &mut self.rows else {
             return Err(malformed(at));
         };
-        let answer = pile.lay(u64::from(kind), parameter);
-        self.pile = Some(pile);
-        answer
+        rows.add(kind, parameter)
     }
 
     // A word and its number on line `at`.
-    fn read_entry(&mut self, at: u64, word: Word, number: u64) -> Result<(), Fault>
-        ensures { left result (content self.new) ≡ word_read at (bar_of self.old.pile) word number (content self.old) }
+    fn read_entry(&mut self, at: u64, word: Word<R::Kind>, number: u64) -> Result<(), Fault>
+        ensures { left result (content R.seen self.new) ≡ word_read R.laying at (bar_of R.seen self.old.rows) word number (content R.seen self.old) }
     {
         match word {
             Word::Bar => self.read_bar(at, number),
@@ -101,11 +85,9 @@ impl Listing {
 
     // Line `at`, without the byte 10 that ends it.
     pub fn read_line(&mut self, at: u64, line: &[u8]) -> Result<(), Fault>
-        ensures { left result (content self.new) ≡ line_read at line.now (content self.old) }
+        ensures { left result (content R.seen self.new) ≡ line_read R.words R.laying at line.now (content R.seen self.old) }
     {
-        let Some((word, number)) = entry(line) else {
-            return Err(malformed(at));
-        };
+        let (word, number) = entry::<R>(line).ok_or(malformed(at))?;
         self.read_entry(at, word, number)
     }
 }

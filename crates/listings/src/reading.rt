@@ -5,11 +5,11 @@ ghost use Rattle.listings.specs.Texts.{malformed_at_line, scanned, listed, list_
 
 use crate::listing::Listing;
 use crate::parsing::malformed;
+use crate::rows::Rows;
 use faults::Fault;
-use piles::pile::Pile;
 
 // Why a text is refused, and at which line, counted from 1.
-#[derive(Clone, Copy)]
+#[derive(Clone, Copy, PartialEq, Eq, Debug)]
 pub struct Stop {
     pub fault: Fault,
     pub line: u64,
@@ -28,10 +28,10 @@ fn malformed_at(line: u64) -> Stop
     }
 }
 
-impl Listing {
+impl<R: Rows> Listing<R> {
     // Every line of the text, up to the first that is refused.
     fn scan(&mut self, text: &[u8]) -> Result<(), Stop>
-        ensures { left result (content self.new) ≡ scanned 1 (content self.old) [] text.now }
+        ensures { left result (content R.seen self.new) ≡ scanned R.words R.laying 1 (content R.seen self.old) [] text.now }
     {
         let mut start = 0;
         let mut line = 1;
@@ -50,17 +50,14 @@ impl Listing {
         Ok(())
     }
 
-    // The whole text: the pile, with the cuts left in the listing, or the first refusal.
-    pub fn read_text(&mut self, text: &[u8]) -> Result<Pile, Stop>
-        ensures { listed result self.new.cuts.items ≡ list_from (content self.old) text.now }
+    // The whole text: the rows, with the cuts left in the listing, or the first refusal.
+    pub fn read_text(&mut self, text: &[u8]) -> Result<R, Stop>
+        ensures { listed R.seen result self.new.cuts.items ≡ list_from R.words R.laying (content R.seen self.old) text.now }
     {
         if text.len() > MOST_BYTES {
             return Err(malformed_at(0));
         }
         self.scan(text)?;
-        let Some(pile) = self.pile.take() else {
-            return Err(malformed_at(1));
-        };
-        Ok(pile)
+        self.rows.take().ok_or(malformed_at(1))
     }
 }

@@ -1,2 +1,4 @@
+pub mod Kinds
+pub mod Laid
 pub mod Lower
-pub mod Answers
+pub mod Guarantee

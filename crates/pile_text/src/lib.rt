@@ -1,59 +1,28 @@
-// A cutting list as text: what is printed of it.
+// A cutting list as text, whose rows are laid on a pile.
 #![tactic(auto)]
 
 ghost use Rattle.std.specs.Prelude.{◌≡◌, IfOk, string_bytes};
-ghost use Rattle.pile_text.specs.Answers.{lower_line_text, refused_line_text, printed, fault_of, NoFewerBars};
-ghost use Rattle.listings.specs.Texts.{list_of};
+ghost use Rattle.listings.specs.Answers.{printed, fault_of, NoFewerBars};
 ghost use Rattle.listings.specs.Written.{ReadAsWritten};
+ghost use Rattle.pile_text.specs.Kinds.{kind_words};
+ghost use Rattle.pile_text.specs.Laid.{pile_laying, list_of};
+ghost use Rattle.pile_text.specs.Lower.{lower_of};
 
-use faults::Fault;
-use listings::listing::Listing;
-use lower::lower_figure;
+use laid::LaidRows;
+use listings::printing;
+pub use listings::printing::Printed;
 use std::alloc::{AllocError, Global};
 
+mod laid;
 mod lower;
-
-// The text to print, and the fault where the input was refused.
-#[derive(Drop)]
-pub struct Printed {
-    pub text: String,
-    pub refused: Option<Fault>,
-}
-
-// The line `lower N`.
-fn lower_line(heap: Global, lower: u64) -> Result<String, AllocError>
-    ensures { IfOk result (λ s. string_bytes s ≡ lower_line_text lower) }
-{
-    format!(in heap; "lower {lower}\n")
-}
-
-// The line `refused NUMBER line LINE`.
-fn refused_line(heap: Global, number: u64, line: u64) -> Result<String, AllocError>
-    ensures { IfOk result (λ s. string_bytes s ≡ refused_line_text number line) }
-{
-    format!(in heap; "refused {number} line {line}\n")
-}
 
 // The lower figure of a cutting list, `lower N`, or its first refusal, `refused NUMBER line LINE`. Want of memory is the one
 // other answer. No plan of the list has fewer bars than the figure says, and the list is what the lines of the input say.
 pub fn answer(heap: Global, input: &[u8]) -> Result<Printed, AllocError>
-    ensures text { IfOk result (λ p. string_bytes p.text ≡ printed (list_of input.now)) }
+    ensures text { IfOk result (λ p. string_bytes p.text ≡ printed lower_of (list_of input.now)) }
     ensures refused { IfOk result (λ p. p.refused ≡ fault_of (list_of input.now)) }
-    ensures least { NoFewerBars (list_of input.now) }
-    ensures lines { ReadAsWritten input.now }
+    ensures least { NoFewerBars lower_of (list_of input.now) }
+    ensures lines { ReadAsWritten kind_words pile_laying input.now }
 {
-    let mut listing = Listing::new(heap)?;
-    match listing.read_text(input) {
-        Ok(pile) => {
-            let lower = lower_figure(&pile, listing.cuts.as_slice()).unwrap();
-            Ok(Printed {
-                text: lower_line(heap, lower)?,
-                refused: None,
-            })
-        }
-        Err(stop) => Ok(Printed {
-            text: refused_line(heap, u64::from(stop.fault.refusal), stop.line)?,
-            refused: Some(stop.fault),
-        }),
-    }
+    printing::answer::<LaidRows>(heap, input)
 }

@@ -1,12 +1,13 @@
 // The lower figure of a cutting list.
 ghost use Rattle.std.specs.Prelude.{◌≡◌, ℕ, List, [], ◌∷◌, Ok};
 ghost use Rattle.banks.specs.Contents.{bank_piles};
-ghost use Rattle.bounds.specs.Bounds.{asked_of};
 ghost use Rattle.faults.specs.Faults.{outcome};
 ghost use Rattle.piles.specs.Contents.{pile_rows};
 ghost use Rattle.piles.specs.declared.rows.Row.{Row as RowOf};
+ghost use Rattle.pile_text.specs.Guarantee.{no_fewer_bars};
 ghost use Rattle.pile_text.specs.Lower.{lower_of};
 
+use crate::laid::LaidRows;
 use banks::bank::Bank;
 use bounds::Bounder;
 use bounds::function_bound::FunctionBound;
@@ -14,6 +15,7 @@ use bounds::greater::Greater;
 use dual_feasible::DualFeasible;
 use faults::Fault;
 use functions::identity::Identity;
+use listings::printing::Bounding;
 use piles::pile::Pile;
 
 // The program's bounder: the greater of the identity's bound and a bank that holds the pile.
@@ -27,11 +29,14 @@ fn bounder_of(pile: &Pile) -> Result<Greater<FunctionBound<Identity>, Bank>, Fau
     Greater::new(identity, bank)
 }
 
-// The number of the cuts by the program's bounder. A list of more than 64 cuts is refused with 6, then the first cut above
-// the pile's capacity with 4.
-pub fn lower_figure(pile: &Pile, cuts: &[u64]) -> Result<u64, Fault>
-    ensures { result ≡ asked_of pile.now.capacity (λ list. lower_of pile.now.capacity list (pile_rows pile.now)) cuts.now }
-{
-    let bounder = bounder_of(pile)?;
-    bounder.number(cuts)
+impl Bounding for LaidRows {
+    ghost figure = { lower_of };
+
+    ghost sound = { no_fewer_bars };
+
+    // The number of the cuts by the program's bounder.
+    fn lower_figure(&self, cuts: &[u64]) -> Result<u64, Fault> {
+        let bounder = bounder_of(&self.pile)?;
+        bounder.number(cuts)
+    }
 }

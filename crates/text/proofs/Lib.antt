@@ -1,5 +1,2 @@
-pub mod Scanning
+pub mod Functions
 pub mod LowerFigure
-pub mod Keeping
-pub mod Guarantee
-pub mod WrittenTexts

@@ -1,37 +1,43 @@
--- The figures of a list that keeps to its limits.
-use Rattle.std.proofs.Common.{◌≡◌, ℕ, ◌<◌, ◌≤◌, true, List, length, get_or, is_ok, Ok, Err, Result}
-use Rattle.std.specs.List.{AllByRecursion}
-use Rattle.std.proofs.ByRecursion.{All-get_or}
-use Rattle.std.proofs.lemmas.Bool.{false≢true}
+-- The bound of one more function.
+use Rattle.std.proofs.Common.{◌≡◌, ℕ, ◌+◌, ◌<◌, max, true, List, ◌∷◌, map, length, get_or, drop, Ok, sym, ap, ◌∙◌, arith}
+use Rattle.std.proofs.lemmas.List.{at_drop_more, length-map, get_or-map}
 use Rattle.faults.specs.declared.Fault.{Fault}
-use Rattle.bounds.specs.Bounds.{asked, bound}
-use Rattle.bounds.proofs.Entries.{asked_number}
+use Rattle.faults.specs.declared.Layer.TheVariants.{Function as FunctionLayer}
+use Rattle.faults.specs.declared.Refusal.TheVariants.{Capacity}
+use Rattle.faults.specs.Faults.{fault, outside}
+use Rattle.faults.proofs.Refusals.{passed, same_answer}
+use Rattle.dual_feasible.specs.Laws.{greatest}
+use Rattle.bounds.specs.Bounds.{bound}
 use Rattle.functions.specs.Made.{identity_made}
-use Rattle.functions.specs.Values.{identity}
-use Rattle.lines.specs.declared.Kind.TheVariants.{Threshold}
-use Rattle.text.specs.Kept.{Kept}
-use Rattle.text.specs.Lower.{bound_of_row}
-use Rattle.text.specs.Rows.{row_made, when_made}
-use Rattle.text.specs.declared.listing.Row.{Row}
+use Rattle.text.specs.Functions.{function_capacity, function_row, function_image, function_value, all_for}
+use Rattle.text.specs.Lower.{greatest_of}
+use Rattle.text.specs.Rows.{row_image, row_value}
+use Rattle.text.specs.declared.function.Function.{Function}
+use Rattle.text.proofs.Functions.{made_for}
 
--- a function that can be made answers its bound
-pub bound_told : {X : Type 0} (m : Result X Fault) (c : ℕ) (number : List ℕ → ℕ) (cuts : List ℕ) → is_ok m ≡ true → length cuts ≤ 64 → AllByRecursion (λ s. s ≤ c) cuts
-    → when_made m (asked c number cuts) ≡ Ok (number cuts)
-bound_told (Ok x) c number cuts e few h = asked_number c number cuts few h
-bound_told (Err f) c number cuts e few h = absurd (false≢true e)
+-- the identity for a capacity has it
+pub identity_for : (c k : ℕ) → Ok k ≡ identity_made c → k ≡ c
+identity_for c k e = sym (same_answer {E = Fault} c k (passed (outside 1 greatest c) (fault Capacity FunctionLayer c) (Ok c) k (sym e)).1)
 
--- the row that a read past the end would give
-abbrev pub first_row : Row
-first_row = record { kind = Threshold; parameter = 0 }
+module _ (c : ℕ) (cuts : List ℕ) (functions items : List Function) (same : all_for c functions ≡ true) (all : items ≡ functions) (i : ℕ) (f : Function) (lt : i < length items) (is : f ≡ get_or items i f) where
+  inside : i < length functions
+  inside = omega (arith, ap length all)
 
-module _ (c : ℕ) (cuts : List ℕ) (rows : List Row) (kept : Kept c cuts rows) where
-  -- the identity's bound is told
-  pub identity_told : when_made (identity_made c) (asked c (bound c identity) cuts) ≡ Ok (bound c identity cuts)
-  identity_told = bound_told (identity_made c) c (bound c identity) cuts kept.bar kept.few kept.sized
+  found : f ≡ get_or functions i f
+  found = is ∙ ap (λ fs. get_or fs i f) all
 
-  -- and so is each row's
-  pub row_told : (i : ℕ) → i < length rows
-      → when_made (row_made (get_or rows i first_row).kind c (get_or rows i first_row).parameter) (asked c (λ list. bound_of_row c list (get_or rows i first_row)) cuts) ≡ Ok (bound_of_row c cuts (get_or rows i first_row))
-  row_told i h =
-      let row = get_or rows i first_row in
-      bound_told (row_made row.kind c row.parameter) c (λ list. bound_of_row c list row) cuts (All-get_or (λ (r : Row). is_ok (row_made r.kind c r.parameter) ≡ true) rows i first_row h kept.made) kept.few kept.sized
+  -- the function at hand is made for the capacity
+  pub is_for : function_capacity f ≡ c
+  is_for = made_for c functions i f same inside found
+
+  -- it comes next
+  pub comes_next : (n m : ℕ) → m ≡ max n (bound (function_image f) (function_value f) cuts)
+      → greatest_of c cuts m (drop (i + 1) (map function_row functions)) ≡ greatest_of c cuts n (drop i (map function_row functions))
+  comes_next n m e =
+      let rows = map function_row functions in
+      let own = function_row f in
+      let bound_is = ap (λ k. bound (row_image own.kind k own.parameter) (row_value own.kind k own.parameter) cuts) is_for in
+      let row : get_or rows i own ≡ own = get_or-map function_row functions i f own inside ∙ ap function_row (sym found) in
+      let within : i < length rows = omega (arith, inside, length-map functions function_row) in
+      ap (λ k. greatest_of c cuts k (drop (i + 1) rows)) (e ∙ ap (max n) bound_is)
+      ∙ sym (at_drop_more (greatest_of c cuts n) rows i own within ∙ ap (λ r. greatest_of c cuts n (r ∷ drop (i + 1) rows)) row)

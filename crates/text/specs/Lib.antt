@@ -1,7 +1,7 @@
+pub mod Kinds
 pub mod Rows
 pub mod Lower
-pub mod Listings
-pub mod Kept
+pub mod Functions
+pub mod FunctionsLaw
 pub mod Texts
-pub mod Answers
-pub mod Written
+pub mod Guarantee

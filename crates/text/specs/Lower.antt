@@ -3,7 +3,7 @@ use Rattle.std.specs.Prelude.{ℕ, max, List, [], ◌∷◌}
 use Rattle.bounds.specs.Bounds.{bound}
 use Rattle.functions.specs.Values.{identity}
 use Rattle.text.specs.Rows.{row_image, row_value}
-use Rattle.text.specs.declared.listing.Row.{Row}
+use Rattle.text.specs.declared.kinds.Row.{Row}
 
 -- the bound of a row's function
 abbrev pub bound_of_row : ℕ → List ℕ → Row → ℕ

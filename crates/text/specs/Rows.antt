@@ -1,10 +1,10 @@
 -- Rows: a kind of function and its parameter. The function of a row is made for the bar's capacity c.
-use Rattle.std.specs.Prelude.{ℕ, Ok, Err, Result}
+use Rattle.std.specs.Prelude.{ℕ, Result}
 use Rattle.faults.specs.declared.Fault.{Fault}
 use Rattle.functions.specs.Made.{threshold_made, rounding_made, division_made, counting_made}
 use Rattle.functions.specs.Values.{threshold, rounding, division, counting, rounding_image, division_image, counting_image}
-use Rattle.lines.specs.declared.Kind.{Kind}
-use Rattle.lines.specs.declared.Kind.TheVariants.{Threshold, Rounding, Division, Counting}
+use Rattle.text.specs.declared.kinds.Kind.{Kind}
+use Rattle.text.specs.declared.kinds.Kind.TheVariants.{Threshold, Rounding, Division, Counting}
 
 -- what making it answers
 abbrev pub row_made : Kind → ℕ → ℕ → Result (ℕ × ℕ) Fault
@@ -24,12 +24,3 @@ row_value Threshold c p = threshold c p
 row_value Rounding c p = rounding c p
 row_value Division c p = division p
 row_value Counting c p = counting c p
-
--- what is asked of a function, once it is made
-abbrev pub when_made : {X Y : Type 0} → Result X Fault → Result Y Fault → Result Y Fault
-when_made (Ok x) later = later
-when_made (Err f) later = Err f
-
--- whether it can be made
-abbrev pub checked : {X : Type 0} → Result X Fault → Result Unit Fault
-checked m = when_made m (Ok tt)

@@ -1,55 +1,32 @@
--- What a whole text says.
-use Rattle.std.specs.Prelude.{ℕ, ◌+◌, cond, List, [], ◌∷◌, ◌++◌, length, Some, None, Ok, Err, Option, Result, ◌==◌, nat_lt}
+-- A text whose rows each name a function.
+use Rattle.std.specs.Prelude.{ℕ, List, [], ◌∷◌, ◌++◌, length, Ok, Result, nat_le}
 use Rattle.faults.specs.declared.Fault.{Fault}
-use Rattle.text.specs.declared.listing.Row.{Row}
-use Rattle.text.specs.declared.reading.Stop.{Stop}
-use Rattle.text.specs.Listings.{Content, empty, malformed, line_read}
+use Rattle.faults.specs.declared.Layer.TheVariants.{Text}
+use Rattle.faults.specs.declared.Refusal.TheVariants.{TooMany}
+use Rattle.faults.specs.Faults.{fault, refuse, and_then}
+use Rattle.functions.specs.Made.{identity_made}
+use Rattle.listings.specs.Laying.{Laying}
+use Rattle.listings.specs.Texts as texts
+use Rattle.listings.specs.Texts.{CuttingList}
+use Rattle.listings.specs.declared.reading.Stop.{Stop}
+use Rattle.text.specs.Kinds.{kind_words}
+use Rattle.text.specs.Rows.{row_made}
+use Rattle.text.specs.declared.kinds.Kind.{Kind}
+use Rattle.text.specs.declared.kinds.Row.{Row}
 
--- a text is refused at a line
-abbrev pub stop : Fault → ℕ → Stop
-stop f l = record { fault = f; line = l }
+-- the capacity, from 1 to 1,000,000,000, and no row
+abbrev pub bar_begun : ℕ → Result (ℕ × List Row) Fault
+bar_begun n = and_then (identity_made n) (λ c. Ok (c, []))
 
-abbrev pub malformed_at_line : ℕ → Stop
-malformed_at_line l = stop (malformed l) l
+-- a row: at most 8 of them, and its function can be made
+abbrev pub row_added : ℕ → List Row → Kind → ℕ → Result (List Row) Fault
+row_added c rows kind p =
+    refuse (nat_le 8 (length rows)) (fault TooMany Text 8)
+    (and_then (row_made kind c p) (λ _. Ok (rows ++ record { kind = kind; parameter = p } ∷ [])))
 
--- the content after line l, unless that line is refused
-abbrev pub go_on : Result Content Fault → ℕ → (Content → Result Content Stop) → Result Content Stop
-go_on (Ok s) l next = next s
-go_on (Err f) l next = Err (stop f l)
+abbrev pub function_laying : Laying Kind Row
+function_laying = record { begun = bar_begun; added = row_added }
 
--- the content after the bytes to come, where the lines before have the content s, and line l has begun with the bytes
--- `line`; a line ends with byte 10, and so does the text
-abbrev pub scanned : ℕ → Content → List ℕ → List ℕ → Result Content Stop
-scanned l s line [] = cond (length line == 0) (Ok s) (Err (malformed_at_line l))
-scanned l s line (b ∷ bytes) =
-    cond (b == 10)
-    (go_on (line_read l line s) l (λ t. scanned (l + 1) t [] bytes))
-    (scanned l s (line ++ b ∷ []) bytes)
-
--- the capacity of the bars, the sizes to cut and the rows to bound with
-pub record CuttingList : Type 0 where
-  pub capacity : ℕ
-  pub cuts : List ℕ
-  pub rows : List Row
-
--- a text with no `bar` line is refused at line 1
-abbrev pub with_bar : Option ℕ → Content → Result CuttingList Stop
-with_bar None s = Err (malformed_at_line 1)
-with_bar (Some c) s = Ok (record { capacity = c; cuts = s.cuts; rows = s.rows })
-
-abbrev pub whole : Result Content Stop → Result CuttingList Stop
-whole (Ok s) = with_bar s.bar s
-whole (Err e) = Err e
-
--- the cutting list of a text that comes after the content s, or the first refusal in the order of its lines; more than 65,536
--- bytes are refused at line 0
-abbrev pub list_from : Content → List ℕ → Result CuttingList Stop
-list_from s text = cond (nat_lt 65536 (length text)) (Err (malformed_at_line 0)) (whole (scanned 1 s [] text))
-
-abbrev pub list_of : List ℕ → Result CuttingList Stop
-list_of text = list_from empty text
-
--- what a call that reads a text leaves behind, where it answers the capacity
-abbrev pub listed : Result ℕ Stop → Content → Result CuttingList Stop
-listed (Ok c) s = Ok (record { capacity = c; cuts = s.cuts; rows = s.rows })
-listed (Err e) s = Err e
+-- the cutting list of a text, or its first refusal
+abbrev pub list_of : List ℕ → Result (CuttingList Row) Stop
+list_of text = texts.list_of kind_words function_laying text
