@@ -12,7 +12,7 @@ use Rattle.piles.specs.Plain.{rows_in}
 use Rattle.piles.specs.declared.rows.Row.{Row}
 use Rattle.piles.specs.declared.rows.Rows.{Rows}
 use Rattle.banks.specs.Banks.{pile_bound, pile_bounds, surveyed, all_made}
-use Rattle.banks.specs.Best.{greatest_of, first_with, best_of, better, findings}
+use Rattle.banks.specs.Best.{greatest_of, first_with, best_of, improved, findings}
 use Rattle.banks.specs.Contents.{bank_piles}
 use Rattle.banks.specs.declared.asking.Best.{Best}
 use Rattle.banks.specs.declared.bank.Bank.{Bank}
@@ -23,7 +23,7 @@ cases_le m n = ⊎_elim (λ (h : n < m). inr h) (λ (h : m ≤ n). inl h) (cases
 -- what is found of the numbers from place i on, after what was found before them
 abbrev pub along : Option Best → ℕ → List ℕ → Option Best
 along found i [] = found
-along found i (n ∷ numbers) = along (better found n i) (i + 1) numbers
+along found i (n ∷ numbers) = along (improved found n i) (i + 1) numbers
 
 passed : (m n i : ℕ) (numbers : List ℕ) → (n ≡ m → ⊥) → first_with m (i + 1) numbers ≡ first_with m i (n ∷ numbers)
 passed m n i numbers h = rw (ne_eqb n m h)
@@ -84,12 +84,12 @@ module _ (c : ℕ) (piles : List Rows) (i : ℕ) (rows : Rows) (inside : i < len
 
   -- with its bound the walk goes on behind it
   pub bound_along : (list : List ℕ) (found : Option Best) (bound : ℕ) → bound ≡ pile_bound c list (rows_in rows)
-      → along found i (drop i (pile_bounds c (map rows_in piles) list)) ≡ along (better found bound i) (i + 1) (drop (i + 1) (pile_bounds c (map rows_in piles) list))
+      → along found i (drop i (pile_bounds c (map rows_in piles) list)) ≡ along (improved found bound i) (i + 1) (drop (i + 1) (pile_bounds c (map rows_in piles) list))
   bound_along list found bound e =
       let numbers = pile_bounds c (map rows_in piles) list in
       let here : pile_bound c list (rows_in rows) ≡ get_or numbers i 0 = sym (get_or-map (pile_bound c list) (map rows_in piles) i [] 0 placed ∙ ap (pile_bound c list) rows_at) in
       at_drop_more (along found i) numbers i 0 (omega (arith, length-map (map rows_in piles) (pile_bound c list), placed))
-      ∙ ap (λ n. along (better found n i) (i + 1) (drop (i + 1) numbers)) (sym (e ∙ here))
+      ∙ ap (λ n. along (improved found n i) (i + 1) (drop (i + 1) numbers)) (sym (e ∙ here))
 
 -- what a method of the option makes of what was found
 pub pile_found : (best : Option Best) (P : Best → ℕ → Type 0) (r : Option ℕ) → ((b : Best) (n : ℕ) → P b n → n ≡ b.pile) → MatchOption best (r ≡ None) (λ b. IsSomeAnd r (P b)) → r ≡ (findings best).1
