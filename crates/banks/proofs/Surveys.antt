@@ -1,9 +1,10 @@
 -- The walk over a bank's piles.
-use Rattle.std.proofs.Common.{◌≡◌, ℕ, zero, suc, ◌+◌, ◌<◌, ◌≤◌, max, cond, leb, true, ◌⊎◌, List, [], ◌∷◌, map, length, get_or, drop, is_ok, Some, None, Ok, Err, Option, Result, sym, refl, ap, ◌∙◌, inl, inr, ⊎_elim, arith}
+use Rattle.std.proofs.Common.{◌≡◌, ℕ, zero, suc, ◌+◌, ◌<◌, max, cond, leb, true, List, [], ◌∷◌, map, length, get_or, drop, is_ok, Some, None, Ok, Err, Option, Result, sym, refl, ap, ◌∙◌, arith}
 use Rattle.std.specs.Option.{MatchOption, IsSomeAnd}
 use Rattle.std.specs.Result.{IsErrAnd}
 use Rattle.std.proofs.lemmas.List.{get_or-map, length-map, at_drop_more}
-use Rattle.std.proofs.lemmas.Bool.{cases_lt, and_parts, eq-eqb, ne_eqb, le-leb, lt-leb}
+use Rattle.std.proofs.lemmas.Bool.{and_parts, le-leb}
+use Rattle.std.proofs.lemmas.Bool.Decides.{nat_tests}
 use Rattle.faults.specs.declared.Fault.{Fault}
 use Rattle.bounds.specs.Bounds.{asked_of}
 use Rattle.bounds.proofs.Entries.{asked_refused, asked_answered}
@@ -17,48 +18,25 @@ use Rattle.banks.specs.Contents.{bank_piles}
 use Rattle.banks.specs.declared.asking.Best.{Best}
 use Rattle.banks.specs.declared.bank.Bank.{Bank}
 
-cases_le : (m n : ℕ) → (m ≤ n) ⊎ (n < m)
-cases_le m n = ⊎_elim (λ (h : n < m). inr h) (λ (h : m ≤ n). inl h) (cases_lt n m)
-
 -- what is found of the numbers from place i on, after what was found before them
 abbrev pub along : Option Best → ℕ → List ℕ → Option Best
 along found i [] = found
 along found i (n ∷ numbers) = along (improved found n i) (i + 1) numbers
 
-passed : (m n i : ℕ) (numbers : List ℕ) → (n ≡ m → ⊥) → first_with m (i + 1) numbers ≡ first_with m i (n ∷ numbers)
-passed m n i numbers h = rw (ne_eqb n m h)
-
 -- the first that reaches the greatest is the number at the front, where it is as great as those behind it
 first_here : (n i : ℕ) (numbers : List ℕ) → cond (leb (greatest_of numbers) n) (Some i) (first_with (greatest_of numbers) (i + 1) numbers) ≡ first_with (max n (greatest_of numbers)) i (n ∷ numbers)
-first_here n i numbers =
-    let g = greatest_of numbers in
-    ⊎_elim
-    (λ (h : g ≤ n). let m : max n g ≡ n = omega arith in rw (le-leb g n h, m, eq-eqb n n refl))
-    (λ (h : n < g).
-    let m : max n g ≡ g = omega arith in
-    rw (lt-leb g n h) (passed g n i numbers (λ e. omega arith) ∙ ap (λ k. first_with k i (n ∷ numbers)) (sym m)))
-    (cases_le g n)
+first_here n i numbers = grind (arith, nat_tests)
+
+-- what was found and what is found behind it, with the number n between them
+one_further : (best : Best) (n i : ℕ) (numbers : List ℕ) (behind : Option Best → ℕ × Option ℕ)
+    → ((b : Best) → behind (Some b) ≡ (max b.bound (greatest_of numbers), cond (leb (greatest_of numbers) b.bound) (Some b.pile) (first_with (greatest_of numbers) (i + 1) numbers)))
+    → behind (improved (Some best) n i) ≡ (max best.bound (greatest_of (n ∷ numbers)), cond (leb (greatest_of (n ∷ numbers)) best.bound) (Some best.pile) (first_with (greatest_of (n ∷ numbers)) i (n ∷ numbers)))
+one_further best n i numbers behind given = grind (arith, nat_tests, given best, given (record { bound = n; pile = i }))
 
 found_further : (best : Best) (i : ℕ) (numbers : List ℕ)
     → findings (along (Some best) i numbers) ≡ (max best.bound (greatest_of numbers), cond (leb (greatest_of numbers) best.bound) (Some best.pile) (first_with (greatest_of numbers) i numbers))
 found_further best i [] = rw (le-leb 0 best.bound (omega arith), let m : max best.bound 0 ≡ best.bound = omega arith in m)
-found_further best i (n ∷ numbers) =
-    let g = greatest_of numbers in
-    let b = best.bound in
-    ⊎_elim
-    (λ (h : n ≤ b).
-    rw (le-leb n b h, found_further best (i + 1) numbers)
-    (⊎_elim
-    (λ (k : g ≤ b). let m : max n g ≤ b = omega arith in let e : max b g ≡ max b (max n g) = omega arith in rw (le-leb g b k, le-leb (max n g) b m, e))
-    (λ (k : b < g).
-    let m : max n g ≡ g = omega arith in
-    rw (lt-leb g b k) (ap (λ place. (max b g, place)) (passed g n i numbers (λ e. omega arith)) ∙ ap (λ l. (max b l, first_with l i (n ∷ numbers))) (sym m) ∙ rw (m, lt-leb g b k)))
-    (cases_le g b)))
-    (λ (h : b < n).
-    let m : b < max n g = omega arith in
-    let e : max n g ≡ max b (max n g) = omega arith in
-    rw (lt-leb n b h, found_further (record { bound = n; pile = i }) (i + 1) numbers, lt-leb (max n g) b m, first_here n i numbers, sym e))
-    (cases_le n b)
+found_further best i (n ∷ numbers) = one_further best n i numbers (λ found. findings (along found (i + 1) numbers)) (λ b. found_further b (i + 1) numbers)
 
 -- all in all it is the greatest of the numbers, and the place of the first that reaches it
 pub found_all : (numbers : List ℕ) → findings (along None 0 numbers) ≡ (greatest_of numbers, best_of numbers)

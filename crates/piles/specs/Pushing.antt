@@ -1,6 +1,6 @@
 -- One row more on top.
 use Rattle.std.specs.Prelude.{◌≡◌, ℕ, suc, ◌-◌, Bool, true, false, not, ◌&&◌, ◌||◌, List, [], ◌∷◌, ◌++◌, length, Some, None, Option, ◌==◌, nat_eq, refl}
-use Rattle.std.proofs.Math.Bool.{or_assoc}
+use Rattle.std.proofs.Math.Bool.{or_assoc, or-false}
 use Rattle.std.proofs.Common.{⊎_elim, sym, ap, ◌∙◌, arith}
 use Rattle.std.proofs.lemmas.List.{length-map, map_push}
 use Rattle.std.proofs.lemmas.Bool.{cases_Bool, true≢false, false≢true, and_parts, and_from, eq-eqb, ne_eqb}
@@ -13,10 +13,6 @@ use Rattle.piles.specs.Contents.{pile_rows}
 use Rattle.piles.specs.declared.pile.Pile.{Pile}
 use Rattle.piles.specs.declared.rows.Row.{Row}
 use Rattle.piles.specs.declared.rows.Step.{Step}
-
-or_nothing : (b : Bool) → (b || false) ≡ b
-or_nothing true = refl
-or_nothing false = refl
 
 -- a pile has as many rows as steps
 pub rows_counted : (p : Pile) → length (pile_rows p) ≡ array_vec_len p.steps
@@ -31,7 +27,7 @@ image_push d [] row = refl
 image_push d (r ∷ rows) row = image_push (image_over_kind r.kind d r.parameter) rows row
 
 pub counting_push : (rows : List Row) (row : Row) → counting_among (rows ++ row ∷ []) ≡ (counting_among rows || counts row.kind)
-counting_push [] row = or_nothing (counts row.kind)
+counting_push [] row = or-false (counts row.kind)
 counting_push (r ∷ rows) row = ap (λ b. counts r.kind || b) (counting_push rows row) ∙ sym (or_assoc (counts r.kind) (counting_among rows) (counts row.kind))
 
 pub stands_push : (d : ℕ) (steps : List Step) (step : Step) → stands d steps ≡ true → step.below ≡ image_of d (rows_of steps) → stands d (steps ++ step ∷ []) ≡ true
