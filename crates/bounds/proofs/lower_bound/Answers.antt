@@ -64,12 +64,6 @@ loop-i-preserved g c =
       λ later. c.loop-i.invariant.2 later ∙ entry_passes (g.F.DualFeasible.capacity c.args.f.now) list i later c.loop-i-test.true t.0,
     )
 
-pub rounded_up-requires : goal.rounded_up-requires
-rounded_up-requires g c =
-    let d = ap (λ (p : ℕ × ℕ). p.1) c.capacities-image.ensures in
-    let limits = (g.met.F.DualFeasible.limits c.args.f.now).1 in
-    record { positive = omega arith; fits = omega arith }
-
 pub returns : goal.returns
 returns g c =
     let list = c.args.list.now in
