@@ -1,9 +1,10 @@
 -- The walk over a bank's piles.
-use Rattle.std.proofs.Common.{◌≡◌, ℕ, zero, suc, ◌+◌, ◌<◌, ◌≤◌, max, cond, leb, true, ◌⊎◌, List, [], ◌∷◌, map, length, get_or, drop, is_ok, Some, None, Ok, Err, Option, Result, sym, refl, ap, ◌∙◌, inl, inr, ⊎_elim, arith}
+use Rattle.std.proofs.Common.{◌≡◌, ℕ, zero, suc, ◌+◌, ◌<◌, max, cond, leb, true, List, [], ◌∷◌, map, length, get_or, drop, is_ok, Some, None, Ok, Err, Option, Result, sym, refl, ap, ◌∙◌, arith}
 use Rattle.std.specs.Option.{MatchOption, IsSomeAnd}
 use Rattle.std.specs.Result.{IsErrAnd}
 use Rattle.std.proofs.lemmas.List.{get_or-map, length-map, at_drop_more}
-use Rattle.std.proofs.lemmas.Bool.{cases_lt, and_parts, eq-eqb, ne_eqb, le-leb, lt-leb}
+use Rattle.std.proofs.lemmas.Bool.{and_parts, le-leb}
+use Rattle.std.proofs.lemmas.Bool.Decides.{nat_tests}
 use Rattle.faults.specs.declared.Fault.{Fault}
 use Rattle.bounds.specs.Bounds.{asked_of}
 use Rattle.bounds.proofs.Entries.{asked_refused, asked_answered}
@@ -12,53 +13,30 @@ use Rattle.piles.specs.Plain.{rows_in}
 use Rattle.piles.specs.declared.rows.Row.{Row}
 use Rattle.piles.specs.declared.rows.Rows.{Rows}
 use Rattle.banks.specs.Banks.{pile_bound, pile_bounds, surveyed, all_made}
-use Rattle.banks.specs.Best.{greatest_of, first_with, best_of, better, findings}
+use Rattle.banks.specs.Best.{greatest_of, first_with, best_of, improved, findings}
 use Rattle.banks.specs.Contents.{bank_piles}
 use Rattle.banks.specs.declared.asking.Best.{Best}
 use Rattle.banks.specs.declared.bank.Bank.{Bank}
 
-cases_le : (m n : ℕ) → (m ≤ n) ⊎ (n < m)
-cases_le m n = ⊎_elim (λ (h : n < m). inr h) (λ (h : m ≤ n). inl h) (cases_lt n m)
-
 -- what is found of the numbers from place i on, after what was found before them
 abbrev pub along : Option Best → ℕ → List ℕ → Option Best
 along found i [] = found
-along found i (n ∷ numbers) = along (better found n i) (i + 1) numbers
-
-passed : (m n i : ℕ) (numbers : List ℕ) → (n ≡ m → ⊥) → first_with m (i + 1) numbers ≡ first_with m i (n ∷ numbers)
-passed m n i numbers h = rw (ne_eqb n m h)
+along found i (n ∷ numbers) = along (improved found n i) (i + 1) numbers
 
 -- the first that reaches the greatest is the number at the front, where it is as great as those behind it
 first_here : (n i : ℕ) (numbers : List ℕ) → cond (leb (greatest_of numbers) n) (Some i) (first_with (greatest_of numbers) (i + 1) numbers) ≡ first_with (max n (greatest_of numbers)) i (n ∷ numbers)
-first_here n i numbers =
-    let g = greatest_of numbers in
-    ⊎_elim
-    (λ (h : g ≤ n). let m : max n g ≡ n = omega arith in rw (le-leb g n h, m, eq-eqb n n refl))
-    (λ (h : n < g).
-    let m : max n g ≡ g = omega arith in
-    rw (lt-leb g n h) (passed g n i numbers (λ e. omega arith) ∙ ap (λ k. first_with k i (n ∷ numbers)) (sym m)))
-    (cases_le g n)
+first_here n i numbers = grind (arith, nat_tests)
+
+-- what was found and what is found behind it, with the number n between them
+one_further : (best : Best) (n i : ℕ) (numbers : List ℕ) (behind : Option Best → ℕ × Option ℕ)
+    → ((b : Best) → behind (Some b) ≡ (max b.bound (greatest_of numbers), cond (leb (greatest_of numbers) b.bound) (Some b.pile) (first_with (greatest_of numbers) (i + 1) numbers)))
+    → behind (improved (Some best) n i) ≡ (max best.bound (greatest_of (n ∷ numbers)), cond (leb (greatest_of (n ∷ numbers)) best.bound) (Some best.pile) (first_with (greatest_of (n ∷ numbers)) i (n ∷ numbers)))
+one_further best n i numbers behind given = grind (arith, nat_tests, given best, given (record { bound = n; pile = i }))
 
 found_further : (best : Best) (i : ℕ) (numbers : List ℕ)
     → findings (along (Some best) i numbers) ≡ (max best.bound (greatest_of numbers), cond (leb (greatest_of numbers) best.bound) (Some best.pile) (first_with (greatest_of numbers) i numbers))
 found_further best i [] = rw (le-leb 0 best.bound (omega arith), let m : max best.bound 0 ≡ best.bound = omega arith in m)
-found_further best i (n ∷ numbers) =
-    let g = greatest_of numbers in
-    let b = best.bound in
-    ⊎_elim
-    (λ (h : n ≤ b).
-    rw (le-leb n b h, found_further best (i + 1) numbers)
-    (⊎_elim
-    (λ (k : g ≤ b). let m : max n g ≤ b = omega arith in let e : max b g ≡ max b (max n g) = omega arith in rw (le-leb g b k, le-leb (max n g) b m, e))
-    (λ (k : b < g).
-    let m : max n g ≡ g = omega arith in
-    rw (lt-leb g b k) (ap (λ place. (max b g, place)) (passed g n i numbers (λ e. omega arith)) ∙ ap (λ l. (max b l, first_with l i (n ∷ numbers))) (sym m) ∙ rw (m, lt-leb g b k)))
-    (cases_le g b)))
-    (λ (h : b < n).
-    let m : b < max n g = omega arith in
-    let e : max n g ≡ max b (max n g) = omega arith in
-    rw (lt-leb n b h, found_further (record { bound = n; pile = i }) (i + 1) numbers, lt-leb (max n g) b m, first_here n i numbers, sym e))
-    (cases_le n b)
+found_further best i (n ∷ numbers) = one_further best n i numbers (λ found. findings (along found (i + 1) numbers)) (λ b. found_further b (i + 1) numbers)
 
 -- all in all it is the greatest of the numbers, and the place of the first that reaches it
 pub found_all : (numbers : List ℕ) → findings (along None 0 numbers) ≡ (greatest_of numbers, best_of numbers)
@@ -84,12 +62,12 @@ module _ (c : ℕ) (piles : List Rows) (i : ℕ) (rows : Rows) (inside : i < len
 
   -- with its bound the walk goes on behind it
   pub bound_along : (list : List ℕ) (found : Option Best) (bound : ℕ) → bound ≡ pile_bound c list (rows_in rows)
-      → along found i (drop i (pile_bounds c (map rows_in piles) list)) ≡ along (better found bound i) (i + 1) (drop (i + 1) (pile_bounds c (map rows_in piles) list))
+      → along found i (drop i (pile_bounds c (map rows_in piles) list)) ≡ along (improved found bound i) (i + 1) (drop (i + 1) (pile_bounds c (map rows_in piles) list))
   bound_along list found bound e =
       let numbers = pile_bounds c (map rows_in piles) list in
       let here : pile_bound c list (rows_in rows) ≡ get_or numbers i 0 = sym (get_or-map (pile_bound c list) (map rows_in piles) i [] 0 placed ∙ ap (pile_bound c list) rows_at) in
       at_drop_more (along found i) numbers i 0 (omega (arith, length-map (map rows_in piles) (pile_bound c list), placed))
-      ∙ ap (λ n. along (better found n i) (i + 1) (drop (i + 1) numbers)) (sym (e ∙ here))
+      ∙ ap (λ n. along (improved found n i) (i + 1) (drop (i + 1) numbers)) (sym (e ∙ here))
 
 -- what a method of the option makes of what was found
 pub pile_found : (best : Option Best) (P : Best → ℕ → Type 0) (r : Option ℕ) → ((b : Best) (n : ℕ) → P b n → n ≡ b.pile) → MatchOption best (r ≡ None) (λ b. IsSomeAnd r (P b)) → r ≡ (findings best).1

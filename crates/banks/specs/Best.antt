@@ -16,9 +16,9 @@ abbrev pub best_of : List ℕ → Option ℕ
 best_of numbers = first_with (greatest_of numbers) 0 numbers
 
 -- the better of what was found of the numbers before, and a number n at place i: what was found, on equality
-abbrev pub better : Option Best → ℕ → ℕ → Option Best
-better None n i = Some (record { bound = n; pile = i })
-better (Some best) n i = cond (nat_le n best.bound) (Some best) (Some (record { bound = n; pile = i }))
+abbrev pub improved : Option Best → ℕ → ℕ → Option Best
+improved None n i = Some (record { bound = n; pile = i })
+improved (Some best) n i = cond (nat_le n best.bound) (Some best) (Some (record { bound = n; pile = i }))
 
 -- what was found: the greatest number, 0 where there is none, and its place
 abbrev pub findings : Option Best → ℕ × Option ℕ

@@ -5,7 +5,7 @@ ghost use Rattle.bounds.specs.Bounds.{asked_of};
 ghost use Rattle.piles.specs.Laying.{pile_of};
 ghost use Rattle.piles.specs.Plain.{rows_in};
 ghost use Rattle.banks.specs.Banks.{pile_bound, bank_number, best_pile_of, surveyed};
-ghost use Rattle.banks.specs.Best.{better, findings};
+ghost use Rattle.banks.specs.Best.{findings, improved};
 ghost use Rattle.banks.specs.Contents.{bank_piles};
 ghost use Rattle.banks.specs.BankSound.{bank_sound};
 
@@ -35,7 +35,7 @@ struct Best {
 // The better of what was found of the piles before this one and this pile's bound. On equality it is the pile before,
 // which has the lower number.
 fn better_of(found: Option<Best>, bound: u64, pile: u64) -> Option<Best>
-    ensures { result ≡ better found bound pile }
+    ensures { result ≡ improved found bound pile }
 {
     match found {
         Some(best) if best.bound >= bound => found,

@@ -1,8 +1,8 @@
 -- One row more on top.
 use Rattle.std.specs.Prelude.{◌≡◌, ℕ, suc, ◌-◌, Bool, true, false, not, ◌&&◌, ◌||◌, List, [], ◌∷◌, ◌++◌, length, Some, None, Option, ◌==◌, nat_eq, refl}
-use Rattle.std.proofs.Math.Bool.{or_assoc}
+use Rattle.std.proofs.Math.Bool.{or_assoc, or-false}
 use Rattle.std.proofs.Common.{⊎_elim, sym, ap, ◌∙◌, arith}
-use Rattle.std.proofs.lemmas.List.{length-map}
+use Rattle.std.proofs.lemmas.List.{length-map, map_push}
 use Rattle.std.proofs.lemmas.Bool.{cases_Bool, true≢false, false≢true, and_parts, and_from, eq-eqb, ne_eqb}
 use Rattle.arrayvec.specs.ArrayVec.{array_vec_len}
 use Rattle.piles.specs.Kinds.{symmetrises, counts}
@@ -14,20 +14,20 @@ use Rattle.piles.specs.declared.pile.Pile.{Pile}
 use Rattle.piles.specs.declared.rows.Row.{Row}
 use Rattle.piles.specs.declared.rows.Step.{Step}
 
-or_nothing : (b : Bool) → (b || false) ≡ b
-or_nothing true = refl
-or_nothing false = refl
-
 -- a pile has as many rows as steps
 pub rows_counted : (p : Pile) → length (pile_rows p) ≡ array_vec_len p.steps
 rows_counted p = length-map p.steps.items (λ (step : Step). step.row)
+
+-- with one step more, one row more
+pub rows_pushed : (p : Pile) (step : Step) → rows_of (p.steps.items ++ step ∷ []) ≡ pile_rows p ++ step.row ∷ []
+rows_pushed p step = map_push (λ (s : Step). s.row) p.steps.items step
 
 pub image_push : (d : ℕ) (rows : List Row) (row : Row) → image_of d (rows ++ row ∷ []) ≡ image_over_kind row.kind (image_of d rows) row.parameter
 image_push d [] row = refl
 image_push d (r ∷ rows) row = image_push (image_over_kind r.kind d r.parameter) rows row
 
 pub counting_push : (rows : List Row) (row : Row) → counting_among (rows ++ row ∷ []) ≡ (counting_among rows || counts row.kind)
-counting_push [] row = or_nothing (counts row.kind)
+counting_push [] row = or-false (counts row.kind)
 counting_push (r ∷ rows) row = ap (λ b. counts r.kind || b) (counting_push rows row) ∙ sym (or_assoc (counts r.kind) (counting_among rows) (counts row.kind))
 
 pub stands_push : (d : ℕ) (steps : List Step) (step : Step) → stands d steps ≡ true → step.below ≡ image_of d (rows_of steps) → stands d (steps ++ step ∷ []) ≡ true

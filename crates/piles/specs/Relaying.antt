@@ -61,10 +61,6 @@ pile_again p =
     let all : all_laid c [] (rows_of steps) ≡ Ok (rows_of steps) = rows_again c [] steps p.standing p.order (omega (arith, p.few)) in
     rw (or_from (nat_lt c 1) (nat_lt greatest c) (le-ltb c 1 p.limits.0) (le-ltb greatest c p.limits.1), all)
 
--- the row that a read past the end would give
-abbrev pub no_row : Row
-no_row = record { kind = Threshold; parameter = 0 }
-
 -- what a new pile is, and that its capacity has passed the check
 pub new_pile : (c d : ℕ) (rows : List Row) → Ok (d, rows) ≡ pile_made c → (d ≡ c) × (rows ≡ []) × (outside 1 greatest c ≡ false)
 new_pile c d rows e =

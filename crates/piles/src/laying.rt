@@ -128,10 +128,7 @@ impl Pile {
     fn counting_with(&self, row: Row) -> bool
         ensures { result ≡ counting_among (pile_rows self.now ++ row ∷ []) }
     {
-        if self.counting {
-            return true;
-        }
-        row.kind.counts()
+        self.counting || row.kind.counts()
     }
 
     // One row more, which the checks have accepted.
@@ -189,10 +186,10 @@ impl Pile {
         ensures rows { rows_in result ≡ pile_rows self.now }
         ensures again { pile_of self.now.capacity (rows_in result) ≡ Ok (self.now.capacity, rows_in result) }
     {
-        let mut rows = Rows::default();
+        let mut rows = ArrayVec::new();
         for step in self.steps.iter() {
-            rows.rows.push(step.row);
+            rows.push(step.row);
         }
-        rows
+        Rows { rows }
     }
 }

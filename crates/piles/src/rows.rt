@@ -1,5 +1,5 @@
 // Rows: a kind of function or layer, and its parameter.
-ghost use Rattle.std.specs.Prelude.{◌≡◌, ◌≤◌, true, [], length};
+ghost use Rattle.std.specs.Prelude.{◌≡◌, ◌≤◌, true, length};
 ghost use Rattle.dual_feasible.specs.Laws.{InRange};
 ghost use Rattle.piles.specs.Laying.{accepted};
 ghost use Rattle.piles.specs.Plain.{rows_in};
@@ -34,8 +34,8 @@ pub struct Row {
     pub parameter: u64,
 }
 
-// Plain rows for a table, the lowest first.
-#[derive(Clone, Drop)]
+// Plain rows for a table, the lowest first. The default is no rows.
+#[derive(Clone, Default, Drop)]
 pub struct Rows {
     pub(crate) rows: ArrayVec<Row, MOST_ROWS>,
 }
@@ -90,17 +90,6 @@ impl TryFrom<u64> for Kind {
             5 => Ok(Kind::Symmetrisation),
             6 => Ok(Kind::Scaling),
             _ => Err(UnknownKind(number)),
-        }
-    }
-}
-
-// No rows.
-impl Default for Rows {
-    ghost is_default = { λ r. rows_in r ≡ [] };
-
-    fn default() -> Rows {
-        Rows {
-            rows: ArrayVec::new(),
         }
     }
 }

@@ -1,5 +1,6 @@
 // The values of a pile: what each row makes of the value below it, in one walk. The checks of a laid row make any other
-// check needless here.
+// check needless here. So the formulas of the functions stand here once more: a function's own `value` checks the size
+// again, and a public function asks nothing of its callers.
 ghost use Rattle.std.specs.Prelude.{◌≡◌, ◌+◌, ◌*◌, ◌/◌, ◌≤◌, Some, drop};
 ghost use Rattle.dual_feasible.specs.Answers.{valued};
 ghost use Rattle.dual_feasible.specs.Laws.{greatest};

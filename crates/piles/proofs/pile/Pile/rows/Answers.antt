@@ -6,5 +6,5 @@ use Rattle.piles.proofs.pile.Pile.rows.Goals as goal
 
 pub returns-clause-again : goal.returns-clause-again
 returns-clause-again c =
-    let same : c.loop-step.rows.rows.items ≡ pile_rows c.args.self.now = grind (arith, common_steps) in
+    let same : c.loop-step.rows.items ≡ pile_rows c.args.self.now = grind (arith, common_steps) in
     rw same (pile_again c.args.self.now)
