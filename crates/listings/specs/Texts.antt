@@ -1,5 +1,5 @@
 -- What a whole text says.
-use Rattle.std.specs.Prelude.{ℕ, ◌+◌, cond, List, [], ◌∷◌, ◌++◌, length, Some, None, Ok, Err, Option, Result, ◌==◌, nat_lt}
+use Rattle.std.specs.Prelude.{ℕ, ◌+◌, Bool, cond, List, [], ◌∷◌, ◌++◌, length, Some, None, Ok, Err, Option, Result, ◌==◌, nat_lt}
 use Rattle.faults.specs.declared.Fault.{Fault}
 use Rattle.lines.specs.Words.{Words}
 use Rattle.listings.specs.Laying.{Laying}
@@ -13,17 +13,26 @@ stop f l = record { fault = f; line = l }
 abbrev pub malformed_at_line : ℕ → Stop
 malformed_at_line l = stop (malformed l) l
 
+-- an answer of line l, with the line where it is refused
+abbrev pub stopped : {X : Type 0} → ℕ → Result X Fault → Result X Stop
+stopped l (Ok x) = Ok x
+stopped l (Err f) = Err (stop f l)
+
 -- the content after line l, unless that line is refused
 abbrev pub go_on : {Row : Type 0} → Result (Content Row) Fault → ℕ → (Content Row → Result (Content Row) Stop) → Result (Content Row) Stop
 go_on (Ok s) l next = next s
 go_on (Err f) l next = Err (stop f l)
 
+-- byte 10 ends a line
+abbrev pub ends_line : ℕ → Bool
+ends_line b = b == 10
+
 -- the content after the bytes to come, where the lines before have the content s, and line l has begun with the bytes
--- `line`; a line ends with byte 10, and so does the text
+-- `line`; a text ends with the end of a line
 abbrev pub scanned : {Kind Row : Type 0} → Words Kind → Laying Kind Row → ℕ → Content Row → List ℕ → List ℕ → Result (Content Row) Stop
 scanned words laying l s line [] = cond (length line == 0) (Ok s) (Err (malformed_at_line l))
 scanned words laying l s line (b ∷ bytes) =
-    cond (b == 10)
+    cond (ends_line b)
     (go_on (line_read words laying l line s) l (λ t. scanned words laying (l + 1) t [] bytes))
     (scanned words laying l s (line ++ b ∷ []) bytes)
 

@@ -1,8 +1,8 @@
 // What a text says, as far as it is read.
 ghost use Rattle.std.specs.Prelude.{◌≤◌, vec_capacity};
 
-// The rows, which have the bar's capacity and are there once the bar is read, and the cuts. What clauses see of it, its
-// `content`, rests on what they see of the rows; a model's value cannot, since it may not name members of a bound.
+// The rows, which have the bar's capacity and are there once the bar is read, and the cuts. Clauses write its `content` out:
+// as the value of a model it would name the rows' own type of row, and a model's value may not use a bound.
 #[derive(Drop)]
 pub struct Listing<R> {
     pub rows: Option<R>,

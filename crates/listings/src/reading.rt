@@ -1,7 +1,8 @@
 // A whole text, line by line.
 ghost use Rattle.std.specs.Prelude.{◌≡◌, []};
+ghost use Rattle.std.specs.List.{position};
 ghost use Rattle.listings.specs.Listings.{content, left};
-ghost use Rattle.listings.specs.Texts.{malformed_at_line, scanned, listed, list_from};
+ghost use Rattle.listings.specs.Texts.{malformed_at_line, stopped, ends_line, scanned, listed, list_from};
 
 use crate::listing::Listing;
 use crate::parsing::malformed;
@@ -28,23 +29,34 @@ fn malformed_at(line: u64) -> Stop
     }
 }
 
+// What a line answers, with its number where it is refused.
+fn stopped_at(line: u64, answer: Result<(), Fault>) -> Result<(), Stop>
+    ensures { result ≡ stopped line answer }
+{
+    answer.map_err(|fault| Stop { fault, line })
+}
+
+// The place of the first byte that ends a line.
+fn line_end(text: &[u8]) -> Option<usize>
+    ensures { result ≡ position ends_line text.now }
+{
+    text.iter().position(|b| *b == b'\n')
+}
+
 impl<R: Rows> Listing<R> {
     // Every line of the text, up to the first that is refused.
     fn scan(&mut self, text: &[u8]) -> Result<(), Stop>
         ensures { left result (content R.seen self.new) ≡ scanned R.words R.laying 1 (content R.seen self.old) [] text.now }
     {
-        let mut start = 0;
+        // A `for` over `split_inclusive` was tried: its invariant would have to name what the closure computes.
+        let mut rest = text;
         let mut line = 1;
-        for (i, b) in text.iter().enumerate() {
-            if *b == b'\n' {
-                if let Err(fault) = self.read_line(line, &text[start..i]) {
-                    return Err(Stop { fault, line });
-                }
-                start = i + 1;
-                line += 1;
-            }
+        while let Some(end) = line_end(rest) {
+            stopped_at(line, self.read_line(line, &rest[..end]))?;
+            rest = &rest[end + 1..];
+            line += 1;
         }
-        if start < text.len() {
+        if !rest.is_empty() {
             return Err(malformed_at(line));
         }
         Ok(())

@@ -19,7 +19,7 @@ const MOST_ROWS: usize = 8;
 #[derive(Drop)]
 pub struct FunctionRows {
     pub capacity: u64,
-    pub functions: ArrayVec<Function, 8>,
+    pub functions: ArrayVec<Function, MOST_ROWS>,
     ghost limits: { InRange capacity },
     ghost same: { all_for capacity functions.items ≡ true },
 }

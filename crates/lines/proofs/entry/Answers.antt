@@ -1,17 +1,11 @@
-use Rattle.std.proofs.Common.{◌≡◌, [], drop, Some, None, sym, ap, arith, rules}
-use Rattle.std.proofs.lemmas.List.{drop_all}
+use Rattle.std.proofs.Common.{Some, None, arith}
 use Rattle.std.proofs.lemmas.List.Sums.{prefix_len-le-length}
-use Rattle.lines.specs.Lines.{not_blank, numeral}
-use Rattle.lines.proofs.TakenApart.{entry_is, entry_from}
+use Rattle.lines.specs.Lines.{not_blank}
+use Rattle.lines.proofs.TakenApart.{entry_from}
 use Rattle.lines.proofs.entry.Goals as goal
 
 pub split_at-requires : goal.split_at-requires
 split_at-requires g c = omega (arith, prefix_len-le-length not_blank c.args.line.now)
-
-pub returns-in_default-back : goal.returns-in_default-back
-returns-in_default-back g c =
-    let none : drop 1 c.split_at.result.1.now ≡ [] = drop_all 1 c.split_at.result.1.now (search rules) in
-    entry_is g.W.RowWords.words c.args.line.now c.before_blank.result c.split_at.result.0.now c.split_at.result.1.now c.before_blank.ensures c.split_at.ensures.front c.split_at.ensures.back (Some c.in-Some.word) None c.in-Some.ensures (sym (ap numeral none))
 
 pub returns-in_default-number : goal.returns-in_default-number
 returns-in_default-number g c =
