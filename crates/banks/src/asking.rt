@@ -44,7 +44,7 @@ fn better_of(found: Option<Best>, bound: u64, pile: u64) -> Option<Best>
 }
 
 impl Bank {
-    // The greatest bound, and the number of the first pile that reaches it.
+    // The greatest bound, and the number of the first pile that reaches it, where there is a pile.
     fn survey(&self, list: &[u64]) -> Result<Option<Best>, Fault>
         ensures { outcome findings result ≡ asked_of self.now.capacity (surveyed self.now.capacity (bank_piles self.now)) list.now }
     {

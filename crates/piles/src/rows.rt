@@ -13,7 +13,7 @@ pub(crate) const MOST_ROWS: usize = 8;
 // What a row lays on those below it.
 #[derive(Clone, Copy, Default, PartialEq, Eq, Debug)]
 pub enum Kind {
-    // in a row that stands in an unused place
+    // also the kind in the unused places of a table
     #[default]
     Threshold,
     Rounding,

@@ -54,7 +54,7 @@ impl Step {
         if 2 * value > self.below {
             return self.below / e - (self.below - value) / e;
         }
-        if e <= value { 1 } else { 0 }
+        u64::from(e <= value)
     }
 
     // The value of a scaling row.
