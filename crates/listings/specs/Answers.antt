@@ -11,16 +11,17 @@ abbrev pub lower_line_text : ℕ → List ℕ
 lower_line_text n = codes "lower " ++ (decimal n ++ (10 ∷ []))
 
 -- `refused NUMBER line LINE`
-abbrev pub refusal_text : Stop → List ℕ
-refusal_text e = codes "refused " ++ (decimal (number_of e.fault.refusal) ++ (codes " line " ++ decimal e.line))
+abbrev pub refused_line_text : ℕ → ℕ → List ℕ
+refused_line_text number line = codes "refused " ++ (decimal number ++ (codes " line " ++ (decimal line ++ (10 ∷ []))))
 
-abbrev pub refused_line_text : Stop → List ℕ
-refused_line_text e = refusal_text e ++ (10 ∷ [])
+-- the same without the end of the line
+abbrev pub refusal_text : ℕ → ℕ → List ℕ
+refusal_text number line = codes "refused " ++ (decimal number ++ (codes " line " ++ decimal line))
 
 -- the one line of a text, where the lower figure of a capacity, cuts and rows is known
 abbrev pub printed : {Row : Type 0} → (ℕ → List ℕ → List Row → ℕ) → Result (CuttingList Row) Stop → List ℕ
 printed figure (Ok l) = lower_line_text (figure l.capacity l.cuts l.rows)
-printed figure (Err e) = refused_line_text e
+printed figure (Err e) = refused_line_text (number_of e.fault.refusal) e.line
 
 -- the fault of a text that is refused
 abbrev pub fault_of : {Row : Type 0} → Result (CuttingList Row) Stop → Option Fault

@@ -1,6 +1,7 @@
 // What is printed of a text.
 ghost use Rattle.std.specs.Prelude.{◌≡◌, ℕ, List, Some, IfOk, string_bytes};
 ghost use Rattle.bounds.specs.Bounds.{asked_of};
+ghost use Rattle.faults.specs.Faults.{number_of};
 ghost use Rattle.listings.specs.Answers.{lower_line_text, refused_line_text, refusal_text, printed, fault_of, NoFewerBars};
 ghost use Rattle.listings.specs.Texts.{list_of};
 ghost use Rattle.listings.specs.Written.{ReadAsWritten};
@@ -33,7 +34,7 @@ pub struct Printed {
 }
 
 impl fmt::Display for Stop {
-    ghost output = { λ stop. Some (refusal_text stop) };
+    ghost output = { λ stop. Some (refusal_text (number_of stop.fault.refusal) stop.line) };
 
     fn fmt<W: fmt::Write>(&self, f: &mut fmt::Formatter<W>) -> fmt::Result {
         let number = u64::from(self.fault.refusal);
@@ -51,7 +52,7 @@ fn lower_line(heap: Global, lower: u64) -> Result<String, AllocError>
 
 // The line `refused NUMBER line LINE`.
 fn refused_line(heap: Global, stop: Stop) -> Result<String, AllocError>
-    ensures { IfOk result (λ s. string_bytes s ≡ refused_line_text stop) }
+    ensures { IfOk result (λ s. string_bytes s ≡ refused_line_text (number_of stop.fault.refusal) stop.line) }
 {
     format!(in heap; "{stop}\n")
 }
