@@ -15,7 +15,7 @@ pub(crate) const MOST_ROWS: usize = 8;
 pub enum Kind {
     // also the kind in the unused places of a table
     #[default]
-    Threshold,
+    Threshold = 1,
     Rounding,
     Division,
     Counting,
@@ -64,14 +64,7 @@ impl From<Kind> for u64 {
     ghost from_gives = { λ kind n. n ≡ kind_number kind };
 
     fn from(kind: Kind) -> u64 {
-        match kind {
-            Kind::Threshold => 1,
-            Kind::Rounding => 2,
-            Kind::Division => 3,
-            Kind::Counting => 4,
-            Kind::Symmetrisation => 5,
-            Kind::Scaling => 6,
-        }
+        kind as u64
     }
 }
 
