@@ -186,10 +186,11 @@ impl Pile {
         ensures rows { rows_in result ≡ pile_rows self.now }
         ensures again { pile_of self.now.capacity (rows_in result) ≡ Ok (self.now.capacity, rows_in result) }
     {
-        let mut rows = ArrayVec::new();
-        for step in self.steps.iter() {
-            rows.push(step.row);
+        let mut rows = Rows::NONE.rows;
+        for (i, step) in self.steps.iter().enumerate() {
+            rows[i] = step.row;
         }
-        Rows { rows }
+        let count = self.steps.len();
+        Rows { count, rows }
     }
 }

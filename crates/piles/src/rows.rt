@@ -5,8 +5,6 @@ ghost use Rattle.piles.specs.Laying.{accepted};
 ghost use Rattle.piles.specs.Plain.{rows_in};
 ghost use Rattle.piles.specs.Kinds.{kind_number, Numbers};
 
-use arrayvec::ArrayVec;
-
 // A pile has at most this many rows.
 pub(crate) const MOST_ROWS: usize = 8;
 
@@ -34,10 +32,12 @@ pub struct Row {
     pub parameter: u64,
 }
 
-// Plain rows for a table, the lowest first. The default is no rows.
-#[derive(Clone, Default, Drop)]
+// Plain rows for a table, the lowest first: those below the count are meant. They lie in an array with their count, since
+// plain rows can be copied, and a vector of fixed capacity cannot.
+#[derive(Clone, Copy, Default)]
 pub struct Rows {
-    pub(crate) rows: ArrayVec<Row, MOST_ROWS>,
+    pub(crate) count: usize,
+    pub(crate) rows: [Row; MOST_ROWS],
 }
 
 // A row that is laid, with the image capacity beneath it, so that a value costs one walk over the rows.
@@ -88,11 +88,20 @@ impl TryFrom<u64> for Kind {
 }
 
 impl Rows {
+    // No rows.
+    pub const NONE: Rows = Rows {
+        count: 0,
+        rows: [Row {
+            kind: Kind::Threshold,
+            parameter: 0,
+        }; MOST_ROWS],
+    };
+
     // The rows that are meant.
     pub fn as_slice(&self) -> &[Row]
-        ensures rows { result.now ≡ rows_in self.now }
-        ensures few { length result.now ≤ 8 }
+        ensures { result.now ≡ rows_in self.now }
     {
-        self.rows.as_slice()
+        let count = self.count.min(MOST_ROWS);
+        &self.rows[..count]
     }
 }

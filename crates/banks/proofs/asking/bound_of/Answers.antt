@@ -16,5 +16,5 @@ returns c =
     let size = c.args.capacity in
     let rows = rows_in c.args.rows.now in
     let pile = c.in_ok-pile.pile in
-    let same = same_answer {E = Fault} (pile.capacity, pile_rows pile) (size, rows) (c.in_ok-pile.ensures ∙ ap (pile_of size) c.as_slice.ensures.rows ∙ pile_whole size rows c.requires) in
+    let same = same_answer {E = Fault} (pile.capacity, pile_rows pile) (size, rows) (c.in_ok-pile.ensures ∙ ap (pile_of size) c.as_slice.ensures ∙ pile_whole size rows c.requires) in
     c.lower_bound.ensures.answer ∙ ap (λ (p : ℕ × List Row). asked_of p.0 (λ l. pile_bound p.0 l p.1) c.args.list.now) same
