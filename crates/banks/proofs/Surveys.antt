@@ -48,13 +48,20 @@ made_at c [] i e h = absurd (let z : ⊥ = omega arith in z)
 made_at c (rows ∷ piles) zero e h = (and_parts (is_ok (pile_of c rows)) (all_made c piles) e).0
 made_at c (rows ∷ piles) (suc i) e h = made_at c piles i (and_parts (is_ok (pile_of c rows)) (all_made c piles) e).1 (omega arith)
 
+-- what a read past the end would give
+abbrev pub no_rows : Rows
+no_rows = record { count = 0; rows = [] }
+
 -- the pile at place i
-module _ (c : ℕ) (piles : List Rows) (i : ℕ) (rows : Rows) (inside : i < length piles) (is : rows ≡ get_or piles i rows) where
+module _ (c : ℕ) (piles : List Rows) (i : ℕ) (inside : i < length piles) where
+  abbrev rows : Rows
+  rows = get_or piles i no_rows
+
   placed : i < length (map rows_in piles)
   placed = omega (arith, length-map piles rows_in)
 
   rows_at : get_or (map rows_in piles) i [] ≡ rows_in rows
-  rows_at = get_or-map rows_in piles i rows [] inside ∙ ap rows_in (sym is)
+  rows_at = get_or-map rows_in piles i no_rows [] inside
 
   -- the rows of a pile that is held can be laid
   pub held_made : all_made c (map rows_in piles) ≡ true → is_ok (pile_of c (rows_in rows)) ≡ true

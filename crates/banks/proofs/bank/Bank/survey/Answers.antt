@@ -1,4 +1,4 @@
-use Rattle.std.proofs.Common.{◌≡◌, ℕ, ◌≤◌, length, None, Ok, sym, ap, ◌∙◌, arith}
+use Rattle.std.proofs.Common.{◌≡◌, ℕ, ◌≤◌, length, get_or, None, Ok, sym, ap, ◌∙◌, arith}
 use Rattle.std.proofs.lemmas.List.{at_drop_all, length-map}
 use Rattle.std.proofs.lemmas.Result.{err_from_is_err_and}
 use Rattle.bounds.proofs.Entries.{asked_refused, asked_answered}
@@ -6,7 +6,7 @@ use Rattle.piles.specs.Plain.{rows_in}
 use Rattle.banks.specs.Banks.{pile_bound, pile_bounds, surveyed}
 use Rattle.banks.specs.Best.{findings}
 use Rattle.banks.specs.Contents.{bank_piles}
-use Rattle.banks.proofs.Surveys.{along, found_all, held_made, bound_along}
+use Rattle.banks.proofs.Surveys.{along, found_all, no_rows, held_made, bound_along}
 use Rattle.banks.proofs.bank.Bank.survey.Goals as goal
 
 pub returns-in_err-check_list : goal.returns-in_err-check_list
@@ -18,21 +18,21 @@ returns-in_err-check_list c =
 pub bound_of-requires : goal.bound_of-requires
 bound_of-requires c =
     let b = c.args.self.now in
-    held_made b.capacity b.piles.items c.loop-i.i c.index-piles-i.result (rw (sym c.as_slice-piles.ensures.value) c.loop-i-test.true) (rw (sym c.as_slice-piles.ensures.value) c.index-piles-i.is) b.standing
+    rw c.as_slice-piles.ensures.value (held_made b.capacity b.piles.items c.loop-i.i (rw (sym c.as_slice-piles.ensures.value) c.loop-i-test.true) b.standing)
 
 pub returns-in_err-bound : goal.returns-in_err-bound
 returns-in_err-bound c =
     let b = c.args.self.now in
     let q = err_from_is_err_and c.from_residual-in_err-bound.result c.from_residual-in_err-bound.ensures.1 in
-    rw (q.1, q.2) (asked_refused {X = ℕ} b.capacity (λ l. pile_bound b.capacity l (rows_in c.index-piles-i.result)) (surveyed b.capacity (bank_piles b)) c.args.list.now c.in_err-bound.field-0.0 c.in_err-bound.ensures)
+    rw (q.1, q.2) (asked_refused {X = ℕ} b.capacity (λ l. pile_bound b.capacity l (rows_in (get_or c.as_slice-piles.result.now c.loop-i.i no_rows))) (surveyed b.capacity (bank_piles b)) c.args.list.now c.in_err-bound.field-0.0 c.in_err-bound.ensures)
 
 pub loop-i-preserved : goal.loop-i-preserved
 loop-i-preserved c =
     let b = c.args.self.now in
     let list = c.args.list.now in
-    let a = asked_answered {X = ℕ} b.capacity (λ l. pile_bound b.capacity l (rows_in c.index-piles-i.result)) (surveyed b.capacity (bank_piles b)) list c.in_ok-bound.bound c.in_ok-bound.ensures in
+    let a = asked_answered {X = ℕ} b.capacity (λ l. pile_bound b.capacity l (rows_in (get_or c.as_slice-piles.result.now c.loop-i.i no_rows))) (surveyed b.capacity (bank_piles b)) list c.in_ok-bound.bound c.in_ok-bound.ensures in
     rw c.better_of-found.ensures
-    (sym (bound_along b.capacity b.piles.items c.loop-i.i c.index-piles-i.result (rw (sym c.as_slice-piles.ensures.value) c.loop-i-test.true) (rw (sym c.as_slice-piles.ensures.value) c.index-piles-i.is) list c.loop-i.found c.in_ok-bound.bound a.0) ∙ c.loop-i.invariant)
+    (sym (bound_along b.capacity b.piles.items c.loop-i.i (rw (sym c.as_slice-piles.ensures.value) c.loop-i-test.true) list c.loop-i.found c.in_ok-bound.bound (rw (sym c.as_slice-piles.ensures.value) a.0)) ∙ c.loop-i.invariant)
 
 pub returns : goal.returns
 returns c =
