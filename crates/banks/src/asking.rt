@@ -1,13 +1,13 @@
 // A bank's answers.
-ghost use Rattle.std.specs.Prelude.{◌≡◌, true, take, is_ok};
+ghost use Rattle.std.specs.Prelude.{◌≡◌, true, is_ok};
+ghost use Rattle.faults.specs.Faults.{outcome};
 ghost use Rattle.bounds.specs.Bounds.{asked_of};
 ghost use Rattle.piles.specs.Laying.{pile_of};
 ghost use Rattle.piles.specs.Plain.{rows_in};
 ghost use Rattle.banks.specs.Banks.{pile_bound, bank_number, best_pile_of, surveyed};
-ghost use Rattle.banks.specs.Best.{better};
+ghost use Rattle.banks.specs.Best.{findings, improved};
 ghost use Rattle.banks.specs.Contents.{bank_piles};
 ghost use Rattle.banks.specs.BankSound.{bank_sound};
-ghost use Rattle.std.proofs.Common.{rules, arith};
 
 use crate::bank::Bank;
 use bounds::checks::check_list;
@@ -25,35 +25,34 @@ fn bound_of(capacity: u64, rows: &Rows, list: &[u64]) -> Result<u64, Fault>
     lower_bound(&pile, list)
 }
 
-// The better of what was found of the piles after this one, the greatest bound and its pile, and this pile's bound. On
-// equality it is this pile, which has the lower number.
-fn better_of(found: (u64, Option<u64>), bound: u64, number: u64) -> (u64, Option<u64>)
-    ensures { result ≡ better found bound number }
+// The greatest bound of some piles, and the number of the first of them that reaches it.
+#[derive(Clone, Copy)]
+struct Best {
+    bound: u64,
+    pile: u64,
+}
+
+// The better of what was found of the piles before this one and this pile's bound. On equality it is the pile before,
+// which has the lower number.
+fn better_of(found: Option<Best>, bound: u64, pile: u64) -> Option<Best>
+    ensures { result ≡ improved found bound pile }
 {
-    let (greatest, _) = found;
-    if bound >= greatest {
-        return (bound, Some(number));
+    match found {
+        Some(best) if best.bound >= bound => found,
+        _ => Some(Best { bound, pile }),
     }
-    found
 }
 
 impl Bank {
-    // The piles that are held.
-    fn held(&self) -> &[Rows]
-        ensures { result.now ≡ take self.now.count self.now.piles }
-    {
-        &self.piles[0..self.count]
-    }
-
-    // The greatest bound, and the number of the first pile that reaches it.
-    fn survey(&self, list: &[u64]) -> Result<(u64, Option<u64>), Fault>
-        ensures { result ≡ asked_of self.now.capacity (surveyed self.now.capacity (bank_piles self.now)) list.now }
+    // The greatest bound, and the number of the first pile that reaches it, where there is a pile.
+    fn survey(&self, list: &[u64]) -> Result<Option<Best>, Fault>
+        ensures { outcome findings result ≡ asked_of self.now.capacity (surveyed self.now.capacity (bank_piles self.now)) list.now }
     {
         check_list(self.capacity, list)?;
-        let piles = self.held();
-        let mut found = (0, None);
-        for i in (0..piles.len()).rev() {
-            let bound = bound_of(self.capacity, &piles[i], list)?;
+        let piles = self.piles.as_slice();
+        let mut found = None;
+        for (i, rows) in piles.iter().enumerate() {
+            let bound = bound_of(self.capacity, rows, list)?;
             found = better_of(found, bound, i as u64);
         }
         Ok(found)
@@ -64,8 +63,9 @@ impl Bank {
     pub fn best_pile(&self, list: &[u64]) -> Result<Option<u64>, Fault>
         ensures { result ≡ asked_of self.now.capacity (best_pile_of self.now.capacity (bank_piles self.now)) list.now }
     {
-        let (_, best) = self.survey(list)?;
-        Ok(best)
+        let best = self.survey(list)?;
+        let number = best.map(|best| best.pile);
+        Ok(number)
     }
 }
 
@@ -74,7 +74,7 @@ impl Bounder for Bank {
 
     ghost number = { λ b. bank_number b.capacity (bank_piles b) };
 
-    ghost limits = { first_of (Prim.search rules, Prim.grind (arith, Self.row.coded.inj)) };
+    ghost limits = { λ b. b.limits };
 
     ghost sound = { λ b list few. bank_sound b.capacity (bank_piles b) list b.standing };
 
@@ -83,7 +83,8 @@ impl Bounder for Bank {
     }
 
     fn number(&self, list: &[u64]) -> Result<u64, Fault> {
-        let (greatest, _) = self.survey(list)?;
+        let best = self.survey(list)?;
+        let greatest = best.map_or(0, |best| best.bound);
         Ok(greatest)
     }
 }

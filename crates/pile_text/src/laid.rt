@@ -13,7 +13,7 @@ use piles::rows::{Kind, Row};
 // The pile of a text's rows, as a type of this crate.
 #[derive(Drop)]
 pub struct LaidRows {
-    pub pile: Pile,
+    pub(crate) pile: Pile,
 }
 
 impl RowWords for LaidRows {
@@ -54,6 +54,6 @@ impl Rows for LaidRows {
     }
 
     fn add(&mut self, kind: Kind, parameter: u64) -> Result<(), Fault> {
-        self.pile.lay(kind.number(), parameter)
+        self.pile.lay(u64::from(kind), parameter)
     }
 }

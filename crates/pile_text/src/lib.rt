@@ -13,7 +13,7 @@ use listings::printing;
 pub use listings::printing::Printed;
 use std::alloc::{AllocError, Global};
 
-mod laid;
+pub mod laid;
 mod lower;
 
 // The lower figure of a cutting list, `lower N`, or its first refusal, `refused NUMBER line LINE`. Want of memory is the one

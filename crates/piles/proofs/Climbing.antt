@@ -10,8 +10,9 @@ use Rattle.functions.specs.CountingLaw.{counting_lawful}
 use Rattle.layers.specs.Layers.{scaled}
 use Rattle.layers.specs.ScaledLaw.{scaled_lawful}
 use Rattle.piles.specs.Kinds.{symmetrises}
+use Rattle.piles.specs.Laying.{accepted}
 use Rattle.piles.specs.Layered.{image_over_kind, value_over, image_of, values_of}
-use Rattle.piles.specs.Standing.{rows_of, accepted, stands, plain}
+use Rattle.piles.specs.Standing.{rows_of, stands, plain}
 use Rattle.piles.specs.Walks.{raised, climbed, Climbs}
 use Rattle.piles.specs.declared.rows.Kind.{Kind}
 use Rattle.piles.specs.declared.rows.Kind.TheVariants.{Threshold, Rounding, Division, Counting, Symmetrisation, Scaling}
@@ -76,28 +77,23 @@ values_climbed c d v s (step ∷ steps) e h =
 
 -- the step that a read past the end would give
 abbrev pub no_step : Step
-no_step = record { row = record { kind = Threshold; parameter = 0 }; below = 0 }
+no_step = record { row = record { kind = Threshold; parameter = 0 }; below = 1; limits = (omega arith, omega arith); accepted = refl }
 
 module _ (n : ℕ) (step : Step) (steps : List Step) (climbs : Climbs n (step ∷ steps)) where
-  -- what the first step asks of the value below it
-  pub step_takes : (accepted step.row.kind step.below step.row.parameter ≡ true) × InRange step.below × (n ≤ step.below)
-  step_takes =
-      let p = stands_parts climbs.ground step steps climbs.standing in
-      let same : climbs.ground ≡ step.below = sym (eqb-true step.below climbs.ground p.0) in (
-        subst (λ (b : ℕ). accepted step.row.kind b step.row.parameter ≡ true) same p.1,
-        subst InRange same climbs.limits,
-        subst (λ (b : ℕ). n ≤ b) same climbs.low,
-      )
+  on_ground : step.below ≡ climbs.ground
+  on_ground = eqb-true step.below climbs.ground (stands_parts climbs.ground step steps climbs.standing).0
+
+  -- the first step takes the value below it
+  pub step_takes : n ≤ step.below
+  step_takes = rw on_ground climbs.low
 
   -- the raised value climbs the others
   pub next_climbs : Climbs (raised step.row.kind step.below step.row.parameter n) steps
   next_climbs =
-      let t = step_takes in
-      let p = stands_parts climbs.ground step steps climbs.standing in
-      let same : climbs.ground ≡ step.below = sym (eqb-true step.below climbs.ground p.0) in
+      let row = step.row in
       record {
-        ground = image_over_kind step.row.kind step.below step.row.parameter;
-        limits = image_in_range step.row.kind step.below step.row.parameter t.1 t.0;
-        standing = subst (λ (b : ℕ). stands (image_over_kind step.row.kind b step.row.parameter) steps ≡ true) same p.2;
-        low = raised_below step.row.kind step.below step.row.parameter n t.1 t.0 t.2;
+        ground = image_over_kind row.kind step.below row.parameter;
+        limits = image_in_range row.kind step.below row.parameter step.limits step.accepted;
+        standing = rw on_ground (stands_parts climbs.ground step steps climbs.standing).2;
+        low = raised_below row.kind step.below row.parameter n step.limits step.accepted step_takes;
       }

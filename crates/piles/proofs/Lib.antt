@@ -1,3 +1,3 @@
-pub mod Checks
 pub mod Climbing
 pub mod Mirroring
+pub mod OneMore

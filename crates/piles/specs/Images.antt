@@ -1,14 +1,14 @@
 -- The image capacities of accepted rows.
-use Rattle.std.specs.Prelude.{◌≡◌, ℕ, ◌*◌, ◌≤◌, true, false, not, ◌&&◌, List, [], ◌∷◌, take, ◌==◌, nat_lt}
+use Rattle.std.specs.Prelude.{◌≡◌, ℕ, ◌*◌, ◌≤◌, true, false, not, List, [], ◌∷◌, ◌==◌, nat_lt}
 use Rattle.std.proofs.Math.Nat.{one-le-mul}
-use Rattle.std.proofs.Common.{one-mul, div-le_self, arith}
+use Rattle.std.proofs.Common.{one-mul, div-le_self, subst, arith}
 use Rattle.std.proofs.lemmas.Nat.{le-div}
-use Rattle.std.proofs.lemmas.Bool.{and_parts, or_parts, not-true, ltb-false, le-leb}
+use Rattle.std.proofs.lemmas.Bool.{and_parts, or_parts, eqb-true, not-true, ltb-false, le-leb}
 use Rattle.faults.proofs.Refusals.{within}
 use Rattle.dual_feasible.specs.Laws.{InRange, greatest}
 use Rattle.piles.specs.Layered.{image_over_kind, image_of}
-use Rattle.piles.specs.Laying.{parameter_outside, image_outside}
-use Rattle.piles.specs.Standing.{rows_of, accepted, stands}
+use Rattle.piles.specs.Laying.{parameter_outside, image_outside, accepted}
+use Rattle.piles.specs.Standing.{rows_of, stands}
 use Rattle.piles.specs.declared.pile.Pile.{Pile}
 use Rattle.piles.specs.declared.rows.Kind.{Kind}
 use Rattle.piles.specs.declared.rows.Kind.TheVariants.{Threshold, Rounding, Division, Counting, Symmetrisation, Scaling}
@@ -24,9 +24,8 @@ accepted_parts kind d p e =
 pub stands_parts : (d : ℕ) (step : Step) (steps : List Step) → stands d (step ∷ steps) ≡ true
     → ((step.below == d) ≡ true) × (accepted step.row.kind d step.row.parameter ≡ true) × (stands (image_over_kind step.row.kind d step.row.parameter) steps ≡ true)
 stands_parts d step steps e =
-    let p = and_parts (step.below == d && accepted step.row.kind d step.row.parameter) (stands (image_over_kind step.row.kind d step.row.parameter) steps) e in
-    let q = and_parts (step.below == d) (accepted step.row.kind d step.row.parameter) p.0 in
-    (q.0, q.1, p.1)
+    let p = and_parts (step.below == d) (stands (image_over_kind step.row.kind d step.row.parameter) steps) e in
+    (p.0, subst (λ (b : ℕ). accepted step.row.kind b step.row.parameter ≡ true) (eqb-true step.below d p.0) step.accepted, p.1)
 
 -- a counting row's parameter
 pub counting_range : (d p : ℕ) → parameter_outside Counting d p ≡ false → (1 ≤ p) × (2 * p ≤ d)
@@ -62,4 +61,4 @@ image_positive d steps h e n is = omega (arith, (images_in_range d steps h e).0)
 
 -- the image capacity of a pile
 pub pile_image_in_range : (p : Pile) → InRange p.image
-pile_image_in_range p = rw p.whole (images_in_range p.capacity (take p.count p.steps) p.limits p.standing)
+pile_image_in_range p = rw p.whole (images_in_range p.capacity p.steps.items p.limits p.standing)

@@ -1,7 +1,8 @@
 -- The kinds of rows and their numbers.
-use Rattle.std.specs.Prelude.{ℕ, Bool, true, false, cond, List, [], ◌∷◌, Some, None, Option, ◌==◌}
+use Rattle.std.specs.Prelude.{◌≡◌, ℕ, Bool, true, false, cond, List, [], ◌∷◌, Some, None, Option, Result, MatchResult, ◌==◌}
 use Rattle.piles.specs.declared.rows.Kind.{Kind}
 use Rattle.piles.specs.declared.rows.Kind.TheVariants.{Threshold, Rounding, Division, Counting, Symmetrisation, Scaling}
+use Rattle.piles.specs.declared.rows.UnknownKind.{UnknownKind}
 
 -- the number that stands for a kind in every call
 abbrev pub kind_number : Kind → ℕ
@@ -22,6 +23,10 @@ numbered n (kind ∷ more) = cond (n == kind_number kind) (Some kind) (numbered 
 
 abbrev pub kind_of : ℕ → Option Kind
 kind_of n = numbered n kinds
+
+-- the answer r is the kind that has the number n, or n itself as an error where no kind has it
+abbrev pub Numbers : ℕ → Result Kind UnknownKind → Type 0
+Numbers n r = MatchResult r (λ kind. kind_of n ≡ Some kind) (λ e. (kind_of n ≡ None) × (e.0 ≡ n))
 
 abbrev pub symmetrises : Kind → Bool
 symmetrises Threshold = false

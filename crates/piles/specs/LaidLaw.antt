@@ -11,8 +11,7 @@ use Rattle.dual_feasible.specs.Laws.{InRange, Lawful, greatest}
 use Rattle.functions.specs.Values.{identity}
 use Rattle.piles.specs.Kinds.{kind_number, symmetrises}
 use Rattle.piles.specs.Layered.{image_over_kind, value_over, image_of, values_of, layered, layered_image}
-use Rattle.piles.specs.Laying.{parameter_outside, image_outside, counting_among, laid, all_laid, pile_of}
-use Rattle.piles.specs.Standing.{accepted}
+use Rattle.piles.specs.Laying.{parameter_outside, image_outside, accepted, counting_among, laid, all_laid, pile_of}
 use Rattle.piles.specs.declared.rows.Kind.{Kind}
 use Rattle.piles.specs.declared.rows.Row.{Row}
 use Rattle.piles.specs.Images.{image_in_range}

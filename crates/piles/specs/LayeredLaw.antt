@@ -11,7 +11,7 @@ use Rattle.layers.specs.SymmetrisedLaw.{symmetrised_adds, symmetrised_lawful}
 use Rattle.layers.specs.ScaledLaw.{scaled_adds, scaled_lawful}
 use Rattle.piles.specs.Kinds.{symmetrises, counts}
 use Rattle.piles.specs.Layered.{image_over_kind, value_over}
-use Rattle.piles.specs.Standing.{accepted}
+use Rattle.piles.specs.Laying.{accepted}
 use Rattle.piles.specs.declared.rows.Kind.{Kind}
 use Rattle.piles.specs.declared.rows.Kind.TheVariants.{Threshold, Rounding, Division, Counting, Symmetrisation, Scaling}
 use Rattle.piles.specs.Images.{accepted_parts, counting_range}

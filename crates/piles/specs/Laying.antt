@@ -37,6 +37,10 @@ image_outside Counting d p = false
 image_outside Symmetrisation d p = nat_lt greatest (2 * d)
 image_outside Scaling d p = false
 
+-- a row of the kind with the parameter p may be laid over an image capacity d
+abbrev pub accepted : Kind → ℕ → ℕ → Bool
+accepted kind d p = not (parameter_outside kind d p) && not (image_outside kind d p)
+
 -- some row counts
 abbrev pub counting_among : List Row → Bool
 counting_among [] = false

@@ -1,40 +1,40 @@
 -- One row more on top.
-use Rattle.std.specs.Prelude.{◌≡◌, ℕ, suc, ◌+◌, ◌-◌, ◌<◌, Bool, true, false, not, ◌&&◌, ◌||◌, List, [], ◌∷◌, ◌++◌, length, take, Some, None, Option, ◌==◌, nat_eq, slice_set, refl}
-use Rattle.std.proofs.Math.Bool.{or_assoc}
+use Rattle.std.specs.Prelude.{◌≡◌, ℕ, suc, ◌-◌, Bool, true, false, not, ◌&&◌, ◌||◌, List, [], ◌∷◌, ◌++◌, length, Some, None, Option, ◌==◌, nat_eq, refl}
+use Rattle.std.proofs.Math.Bool.{or_assoc, or-false}
 use Rattle.std.proofs.Common.{⊎_elim, sym, ap, ◌∙◌, arith}
-use Rattle.std.proofs.lemmas.List.{length-map, length-take-le, take_more_set, map_push}
+use Rattle.std.proofs.lemmas.List.{length-map, map_push}
 use Rattle.std.proofs.lemmas.Bool.{cases_Bool, true≢false, false≢true, and_parts, and_from, eq-eqb, ne_eqb}
+use Rattle.arrayvec.specs.ArrayVec.{array_vec_len}
 use Rattle.piles.specs.Kinds.{symmetrises, counts}
 use Rattle.piles.specs.Layered.{image_over_kind, image_of}
 use Rattle.piles.specs.Laying.{counting_among}
-use Rattle.piles.specs.Standing.{rows_of, accepted, stands, unmixed, plain, top_at, topmost}
+use Rattle.piles.specs.Standing.{rows_of, stands, unmixed, plain, top_at, topmost}
 use Rattle.piles.specs.Contents.{pile_rows}
 use Rattle.piles.specs.declared.pile.Pile.{Pile}
 use Rattle.piles.specs.declared.rows.Row.{Row}
 use Rattle.piles.specs.declared.rows.Step.{Step}
 
-or_nothing : (b : Bool) → (b || false) ≡ b
-or_nothing true = refl
-or_nothing false = refl
+-- a pile has as many rows as steps
+pub rows_counted : (p : Pile) → length (pile_rows p) ≡ array_vec_len p.steps
+rows_counted p = length-map p.steps.items (λ (step : Step). step.row)
 
--- a pile has as many rows as it counts
-pub rows_counted : (p : Pile) → length (pile_rows p) ≡ p.count
-rows_counted p = length-map (take p.count p.steps) (λ (step : Step). step.row) ∙ length-take-le p.count p.steps (omega (arith, p.room, p.few))
+-- with one step more, one row more
+pub rows_pushed : (p : Pile) (step : Step) → rows_of (p.steps.items ++ step ∷ []) ≡ pile_rows p ++ step.row ∷ []
+rows_pushed p step = map_push (λ (s : Step). s.row) p.steps.items step
 
 pub image_push : (d : ℕ) (rows : List Row) (row : Row) → image_of d (rows ++ row ∷ []) ≡ image_over_kind row.kind (image_of d rows) row.parameter
 image_push d [] row = refl
 image_push d (r ∷ rows) row = image_push (image_over_kind r.kind d r.parameter) rows row
 
 pub counting_push : (rows : List Row) (row : Row) → counting_among (rows ++ row ∷ []) ≡ (counting_among rows || counts row.kind)
-counting_push [] row = or_nothing (counts row.kind)
+counting_push [] row = or-false (counts row.kind)
 counting_push (r ∷ rows) row = ap (λ b. counts r.kind || b) (counting_push rows row) ∙ sym (or_assoc (counts r.kind) (counting_among rows) (counts row.kind))
 
-pub stands_push : (d : ℕ) (steps : List Step) (step : Step) → stands d steps ≡ true → step.below ≡ image_of d (rows_of steps) → accepted step.row.kind (image_of d (rows_of steps)) step.row.parameter ≡ true
-    → stands d (steps ++ step ∷ []) ≡ true
-stands_push d [] step h e a = rw (eq-eqb step.below d e, a) refl
-stands_push d (s ∷ steps) step h e a =
-    let p = and_parts (s.below == d && accepted s.row.kind d s.row.parameter) (stands (image_over_kind s.row.kind d s.row.parameter) steps) h in
-    and_from _ _ p.0 (stands_push (image_over_kind s.row.kind d s.row.parameter) steps step p.1 e a)
+pub stands_push : (d : ℕ) (steps : List Step) (step : Step) → stands d steps ≡ true → step.below ≡ image_of d (rows_of steps) → stands d (steps ++ step ∷ []) ≡ true
+stands_push d [] step h e = rw (eq-eqb step.below d e) refl
+stands_push d (s ∷ steps) step h e =
+    let p = and_parts (s.below == d) (stands (image_over_kind s.row.kind d s.row.parameter) steps) h in
+    and_from _ _ p.0 (stands_push (image_over_kind s.row.kind d s.row.parameter) steps step p.1 e)
 
 lowest_unmixed : (a b : Bool) → (a && (b || false)) ≡ false → (not (a && b) && true) ≡ true
 lowest_unmixed true true e = absurd (true≢false e)
@@ -75,11 +75,3 @@ top_at_push i (r ∷ rows) row h e =
 pub topmost_push : (mirror : Option ℕ) (rows : List Row) (row : Row) → topmost mirror rows ≡ true → symmetrises row.kind ≡ false → topmost mirror (rows ++ row ∷ []) ≡ true
 topmost_push None rows row h e = plain_push rows row h e
 topmost_push (Some i) rows row h e = top_at_push i rows row h e
-
-module _ (p : Pile) (step : Step) where
-  -- the steps of a pile with one more written behind them
-  pub steps_pushed : p.count < 8 → take (p.count + 1) (slice_set p.steps p.count step) ≡ take p.count p.steps ++ step ∷ []
-  steps_pushed h = take_more_set p.steps p.count step (omega (arith, p.room))
-
-  pub rows_pushed : p.count < 8 → rows_of (take (p.count + 1) (slice_set p.steps p.count step)) ≡ pile_rows p ++ step.row ∷ []
-  rows_pushed h = ap rows_of (steps_pushed h) ∙ map_push (λ (s : Step). s.row) (take p.count p.steps) step

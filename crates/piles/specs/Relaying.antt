@@ -1,7 +1,7 @@
 -- The rows of a pile, laid again, make the same pile.
-use Rattle.std.specs.Prelude.{◌≡◌, ℕ, ◌+◌, ◌<◌, ◌≤◌, true, false, not, ◌&&◌, ◌||◌, List, [], ◌∷◌, ◌++◌, length, take, is_ok, Some, Ok, Result, nat_le, nat_lt, refl}
+use Rattle.std.specs.Prelude.{◌≡◌, ℕ, ◌+◌, ◌<◌, ◌≤◌, true, false, not, ◌&&◌, ◌||◌, List, [], ◌∷◌, ◌++◌, length, is_ok, Some, Ok, Result, nat_le, nat_lt, refl}
 use Rattle.std.proofs.Common.{sym, ap, subst, ◌∙◌, arith}
-use Rattle.std.proofs.lemmas.List.{append-nil, append_assoc, length_push, length-take-le}
+use Rattle.std.proofs.lemmas.List.{append-nil, append_assoc, length_push}
 use Rattle.std.proofs.lemmas.Bool.{and_parts, not-true, lt-leb, or_from, le-ltb}
 use Rattle.faults.specs.declared.Fault.{Fault}
 use Rattle.faults.specs.declared.Layer.TheVariants.{Pile as PileLayer}
@@ -12,8 +12,8 @@ use Rattle.dual_feasible.specs.Laws.{greatest}
 use Rattle.piles.specs.Contents.{pile_rows}
 use Rattle.piles.specs.Kinds.{kind_number, kind_of, symmetrises, counts}
 use Rattle.piles.specs.Layered.{image_of}
-use Rattle.piles.specs.Laying.{most_rows, parameter_outside, image_outside, counting_among, row_laid, laid, all_laid, pile_made, pile_of}
-use Rattle.piles.specs.Standing.{rows_of, accepted, stands, unmixed}
+use Rattle.piles.specs.Laying.{most_rows, parameter_outside, image_outside, accepted, counting_among, row_laid, laid, all_laid, pile_made, pile_of}
+use Rattle.piles.specs.Standing.{rows_of, stands, unmixed}
 use Rattle.piles.specs.declared.pile.Pile.{Pile}
 use Rattle.piles.specs.declared.rows.Kind.{Kind}
 use Rattle.piles.specs.declared.rows.Kind.TheVariants.{Threshold, Rounding, Division, Counting, Symmetrisation, Scaling}
@@ -57,13 +57,9 @@ rows_again c below (step ∷ steps) e u few =
 pub pile_again : (p : Pile) → pile_of p.capacity (pile_rows p) ≡ Ok (p.capacity, pile_rows p)
 pile_again p =
     let c = p.capacity in
-    let steps = take p.count p.steps in
-    let all : all_laid c [] (rows_of steps) ≡ Ok (rows_of steps) = rows_again c [] steps p.standing p.order (omega (arith, length-take-le p.count p.steps (omega (arith, p.room, p.few)), p.few)) in
+    let steps = p.steps.items in
+    let all : all_laid c [] (rows_of steps) ≡ Ok (rows_of steps) = rows_again c [] steps p.standing p.order (omega (arith, p.few)) in
     rw (or_from (nat_lt c 1) (nat_lt greatest c) (le-ltb c 1 p.limits.0) (le-ltb greatest c p.limits.1), all)
-
--- the row that a read past the end would give
-abbrev pub no_row : Row
-no_row = record { kind = Threshold; parameter = 0 }
 
 -- what a new pile is, and that its capacity has passed the check
 pub new_pile : (c d : ℕ) (rows : List Row) → Ok (d, rows) ≡ pile_made c → (d ≡ c) × (rows ≡ []) × (outside 1 greatest c ≡ false)

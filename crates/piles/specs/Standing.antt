@@ -2,24 +2,17 @@
 use Rattle.std.specs.Prelude.{ℕ, ◌-◌, Bool, true, false, cond, not, ◌&&◌, ◌||◌, List, [], ◌∷◌, map, Some, None, Option, ◌==◌}
 use Rattle.piles.specs.Kinds.{symmetrises, counts}
 use Rattle.piles.specs.Layered.{image_over_kind}
-use Rattle.piles.specs.Laying.{parameter_outside, image_outside}
-use Rattle.piles.specs.declared.rows.Kind.{Kind}
 use Rattle.piles.specs.declared.rows.Row.{Row}
 use Rattle.piles.specs.declared.rows.Step.{Step}
 
 abbrev pub rows_of : List Step → List Row
 rows_of steps = map (λ (step : Step). step.row) steps
 
--- a row of the kind with the parameter p may be laid over an image capacity d
-abbrev pub accepted : Kind → ℕ → ℕ → Bool
-accepted kind d p = not (parameter_outside kind d p) && not (image_outside kind d p)
-
--- each step knows the image capacity beneath it, which is d at the lowest, and its row is accepted there
+-- each step, whose row is accepted over the image capacity that it names, names the one beneath it, which is d at the
+-- lowest
 abbrev pub stands : ℕ → List Step → Bool
 stands d [] = true
-stands d (step ∷ steps) =
-    (step.below == d && accepted step.row.kind d step.row.parameter)
-    && stands (image_over_kind step.row.kind d step.row.parameter) steps
+stands d (step ∷ steps) = step.below == d && stands (image_over_kind step.row.kind d step.row.parameter) steps
 
 -- no symmetrisation lies over a counting row; `seen` says whether one lies beneath
 abbrev pub unmixed : Bool → List Row → Bool

@@ -1,49 +1,20 @@
 // Making a pile and laying rows on it.
-ghost use Rattle.std.specs.Prelude.{◌≡◌, ◌<◌, ◌≤◌, true, false, not, ◌&&◌, [], ◌∷◌, ◌++◌, Some, Ok, slice_set};
+ghost use Rattle.std.specs.Prelude.{◌≡◌, ◌<◌, ◌≤◌, true, false, not, ◌&&◌, [], ◌∷◌, ◌++◌, Some, Ok};
+ghost use Rattle.arrayvec.specs.ArrayVec.{array_vec_len};
 ghost use Rattle.dual_feasible.specs.Laws.{greatest};
-ghost use Rattle.faults.specs.Faults.{fault, outcome, checked, kept_or};
+ghost use Rattle.faults.specs.Faults.{outcome, checked, kept_or};
 ghost use Rattle.piles.specs.Contents.{pile_rows};
 ghost use Rattle.piles.specs.Kinds.{symmetrises, counts};
-ghost use Rattle.piles.specs.Laying.{pile_made, pile_of, laid, parameter_outside, image_outside, counting_among, row_laid};
+ghost use Rattle.piles.specs.Laying.{most_rows, pile_made, pile_of, laid, parameter_outside, image_outside, accepted, counting_among, row_laid};
 ghost use Rattle.piles.specs.Plain.{rows_in};
 ghost use Rattle.piles.specs.Layered.{image_over_kind};
-ghost use Rattle.piles.specs.Standing.{accepted, topmost};
+ghost use Rattle.piles.specs.Standing.{topmost};
 
 use crate::pile::Pile;
-use crate::rows::{Kind, Row, Rows, Step};
+use crate::rows::{Kind, MOST_ROWS, Row, Rows, Step};
+use arrayvec::ArrayVec;
 use dual_feasible::checks::{GREATEST, check_capacity};
 use faults::{Fault, Layer, Refusal};
-
-// A pile has at most this many rows.
-const MOST_ROWS: usize = 8;
-
-// What stands in the places where no row is laid yet.
-const NOTHING: Step = Step {
-    row: Row {
-        kind: Kind::Threshold,
-        parameter: 0,
-    },
-    below: 0,
-};
-
-// A fault of this layer.
-fn declined(refusal: Refusal, figure: u64) -> Fault
-    ensures { result ≡ fault refusal Layer.Pile figure }
-{
-    Fault {
-        refusal,
-        layer: Layer::Pile,
-        figure,
-    }
-}
-
-// A step on top of those that are laid.
-fn put(steps: &mut [Step; 8], count: usize, step: Step)
-    requires { count < 8 }
-    ensures { steps.new ≡ slice_set steps.old count step }
-{
-    steps[count] = step;
-}
 
 impl Kind {
     // Whether the kind is that of a symmetrisation.
@@ -61,6 +32,7 @@ impl Kind {
     }
 }
 
+// A step's row is accepted, so a row that is not yet is asked with the image capacity beside it.
 impl Row {
     // Whether the parameter is in its range, over an image capacity.
     fn in_range(self, below: u64) -> bool
@@ -69,11 +41,11 @@ impl Row {
         let parameter = self.parameter;
         match self.kind {
             Kind::Threshold => parameter <= below / 2,
-            Kind::Rounding => parameter >= 1 && parameter <= 1_000,
-            Kind::Division => parameter >= 1 && parameter <= below,
-            Kind::Counting => parameter >= 1 && parameter <= below / 2,
+            Kind::Rounding => (1..=1_000).contains(&parameter),
+            Kind::Division => (1..=below).contains(&parameter),
+            Kind::Counting => (1..=below / 2).contains(&parameter),
             Kind::Symmetrisation => parameter == 0,
-            Kind::Scaling => parameter >= 1 && parameter <= GREATEST,
+            Kind::Scaling => (1..=GREATEST).contains(&parameter),
         }
     }
 
@@ -89,18 +61,20 @@ impl Row {
             _ => false,
         }
     }
+}
 
-    // The image capacity of the row, laid over an image capacity.
-    fn image_over(self, below: u64) -> u64
-        requires { accepted self.kind below self.parameter ≡ true }
-        ensures { result ≡ image_over_kind self.kind below self.parameter }
+impl Step {
+    // The image capacity of the row.
+    fn image(self) -> u64
+        ensures { result ≡ image_over_kind self.row.kind self.below self.row.parameter }
     {
-        match self.kind {
-            Kind::Threshold => below,
-            Kind::Rounding => below * self.parameter,
-            Kind::Division | Kind::Counting => below / self.parameter,
-            Kind::Symmetrisation => 2 * below,
-            Kind::Scaling => self.parameter,
+        let parameter = self.row.parameter;
+        match self.row.kind {
+            Kind::Threshold => self.below,
+            Kind::Rounding => self.below * parameter,
+            Kind::Division | Kind::Counting => self.below / parameter,
+            Kind::Symmetrisation => 2 * self.below,
+            Kind::Scaling => parameter,
         }
     }
 }
@@ -113,8 +87,7 @@ impl Pile {
         check_capacity(Layer::Pile, capacity)?;
         Ok(Pile {
             capacity,
-            count: 0,
-            steps: [NOTHING; 8],
+            steps: ArrayVec::new(),
             image: capacity,
             mirror: None,
             counting: false,
@@ -126,56 +99,55 @@ impl Pile {
     fn check_row(&self, row: Row) -> Result<(), Fault>
         ensures { result ≡ checked (row_laid self.now.capacity (pile_rows self.now) (Some row.kind) row.parameter) }
     {
-        let at = self.count as u64;
+        let at = self.steps.len() as u64;
         if !row.in_range(self.image) {
-            return Err(declined(Refusal::Parameter, at));
+            return Err(Fault::new(Refusal::Parameter, Layer::Pile, at));
         }
         if self.counting && row.kind.symmetrises() {
-            return Err(declined(Refusal::CountingBeneath, at));
+            return Err(Fault::new(Refusal::CountingBeneath, Layer::Pile, at));
         }
         if row.too_large(self.image) {
-            return Err(declined(Refusal::ImageCapacity, at));
+            return Err(Fault::new(Refusal::ImageCapacity, Layer::Pile, at));
         }
         Ok(())
     }
 
     // The topmost symmetrisation, with one row more on top.
+    #[tactic(auto, using(crate::proofs::OneMore::one_more))]
     fn mirror_with(&self, row: Row) -> Option<usize>
         ensures { topmost result (pile_rows self.now ++ row ∷ []) ≡ true }
     {
         if row.kind.symmetrises() {
-            return Some(self.count);
+            return Some(self.steps.len());
         }
         self.mirror
     }
 
     // Whether a row counts, with one row more on top.
+    #[tactic(auto, using(crate::proofs::OneMore::one_more))]
     fn counting_with(&self, row: Row) -> bool
         ensures { result ≡ counting_among (pile_rows self.now ++ row ∷ []) }
     {
-        if self.counting {
-            return true;
-        }
-        row.kind.counts()
+        self.counting || row.kind.counts()
     }
 
     // One row more, which the checks have accepted.
+    #[tactic(auto, using(crate::proofs::OneMore::one_more))]
     fn push(&mut self, row: Row)
-        requires few { self.old.count < 8 }
+        requires few { array_vec_len self.old.steps < most_rows }
         requires accepted { accepted row.kind self.old.image row.parameter ≡ true }
         requires apart { (symmetrises row.kind && self.old.counting) ≡ false }
         ensures capacity { self.new.capacity ≡ self.old.capacity }
         ensures rows { pile_rows self.new ≡ pile_rows self.old ++ row ∷ [] }
     {
+        let below = self.image;
+        let step = Step { row, below };
         let mirror = self.mirror_with(row);
         let counting = self.counting_with(row);
-        let image = row.image_over(self.image);
-        let below = self.image;
-        put(&mut self.steps, self.count, Step { row, below });
-        self.image = image;
+        self.steps.push(step);
+        self.image = step.image();
         self.mirror = mirror;
         self.counting = counting;
-        self.count += 1;
     }
 
     // One row more, of the kind with the number: refusal 6 for a ninth row, then 2 for an unknown kind or a parameter
@@ -186,11 +158,11 @@ impl Pile {
         ensures capacity { self.new.capacity ≡ self.old.capacity }
         ensures rows { pile_rows self.new ≡ kept_or (pile_rows self.old) (laid self.old.capacity (pile_rows self.old) kind parameter) }
     {
-        if self.count >= MOST_ROWS {
-            return Err(declined(Refusal::TooMany, 8));
+        if self.steps.is_full() {
+            return Err(Fault::new(Refusal::TooMany, Layer::Pile, MOST_ROWS as u64));
         }
-        let Some(kind) = Kind::from_number(kind) else {
-            return Err(declined(Refusal::Parameter, self.count as u64));
+        let Ok(kind) = Kind::try_from(kind) else {
+            return Err(Fault::new(Refusal::Parameter, Layer::Pile, self.steps.len() as u64));
         };
         let row = Row { kind, parameter };
         self.check_row(row)?;
@@ -204,7 +176,7 @@ impl Pile {
     {
         let mut pile = Pile::new(capacity)?;
         for row in rows {
-            pile.lay(row.kind.number(), row.parameter)?;
+            pile.lay(u64::from(row.kind), row.parameter)?;
         }
         Ok(pile)
     }
@@ -215,10 +187,10 @@ impl Pile {
         ensures again { pile_of self.now.capacity (rows_in result) ≡ Ok (self.now.capacity, rows_in result) }
     {
         let mut rows = Rows::NONE.rows;
-        for i in 0..self.count {
-            rows[i] = self.steps[i].row;
+        for (i, step) in self.steps.iter().enumerate() {
+            rows[i] = step.row;
         }
-        let count = self.count;
+        let count = self.steps.len();
         Rows { count, rows }
     }
 }

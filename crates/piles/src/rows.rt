@@ -1,12 +1,19 @@
 // Rows: a kind of function or layer, and its parameter.
-ghost use Rattle.std.specs.Prelude.{◌≡◌};
+ghost use Rattle.std.specs.Prelude.{◌≡◌, ◌≤◌, true, length};
+ghost use Rattle.dual_feasible.specs.Laws.{InRange};
+ghost use Rattle.piles.specs.Laying.{accepted};
 ghost use Rattle.piles.specs.Plain.{rows_in};
-ghost use Rattle.piles.specs.Kinds.{kind_number, kind_of};
+ghost use Rattle.piles.specs.Kinds.{kind_number, Numbers};
+
+// A pile has at most this many rows.
+pub(crate) const MOST_ROWS: usize = 8;
 
 // What a row lays on those below it.
-#[derive(Clone, Copy, PartialEq, Eq, Debug)]
+#[derive(Clone, Copy, Default, PartialEq, Eq, Debug)]
 pub enum Kind {
-    Threshold,
+    // also the kind in the unused places of a table
+    #[default]
+    Threshold = 1,
     Rounding,
     Division,
     Counting,
@@ -14,18 +21,23 @@ pub enum Kind {
     Scaling,
 }
 
-// A kind and its parameter, which is 0 for a symmetrisation.
+// A number that no kind has.
 #[derive(Clone, Copy, PartialEq, Eq, Debug)]
+pub struct UnknownKind(pub u64);
+
+// A kind and its parameter, which is 0 for a symmetrisation.
+#[derive(Clone, Copy, Default, PartialEq, Eq, Debug)]
 pub struct Row {
     pub kind: Kind,
     pub parameter: u64,
 }
 
-// Plain rows for a table, the lowest first: those below the count are meant.
-#[derive(Clone, Copy)]
+// Plain rows for a table, the lowest first: those below the count are meant. They lie in an array with their count, since
+// plain rows can be copied, and a vector of fixed capacity cannot.
+#[derive(Clone, Copy, Default)]
 pub struct Rows {
     pub(crate) count: usize,
-    pub(crate) rows: [Row; 8],
+    pub(crate) rows: [Row; MOST_ROWS],
 }
 
 // A row that is laid, with the image capacity beneath it, so that a value costs one walk over the rows.
@@ -33,35 +45,44 @@ pub struct Rows {
 pub(crate) struct Step {
     pub(crate) row: Row,
     pub(crate) below: u64,
+    ghost limits: { InRange below },
+    ghost accepted: { accepted row.kind below row.parameter ≡ true },
 }
 
-impl Kind {
-    // The kind's number, from 1 to 6.
-    pub fn number(self) -> u64
-        ensures { result ≡ kind_number self }
-    {
-        match self {
-            Kind::Threshold => 1,
-            Kind::Rounding => 2,
-            Kind::Division => 3,
-            Kind::Counting => 4,
-            Kind::Symmetrisation => 5,
-            Kind::Scaling => 6,
+// What a table of steps holds in its unused places.
+impl Default for Step {
+    fn default() -> Step {
+        Step {
+            row: Row::default(),
+            below: 1,
         }
     }
+}
 
-    // The kind that has the number, if there is one.
-    pub fn from_number(number: u64) -> Option<Kind>
-        ensures { result ≡ kind_of number }
-    {
+// The kind's number, from 1 to 6.
+impl From<Kind> for u64 {
+    ghost from_gives = { λ kind n. n ≡ kind_number kind };
+
+    fn from(kind: Kind) -> u64 {
+        kind as u64
+    }
+}
+
+// The kind that has the number, if there is one.
+impl TryFrom<u64> for Kind {
+    type Error = UnknownKind;
+
+    ghost try_from_gives = { Numbers };
+
+    fn try_from(number: u64) -> Result<Kind, UnknownKind> {
         match number {
-            1 => Some(Kind::Threshold),
-            2 => Some(Kind::Rounding),
-            3 => Some(Kind::Division),
-            4 => Some(Kind::Counting),
-            5 => Some(Kind::Symmetrisation),
-            6 => Some(Kind::Scaling),
-            _ => None,
+            1 => Ok(Kind::Threshold),
+            2 => Ok(Kind::Rounding),
+            3 => Ok(Kind::Division),
+            4 => Ok(Kind::Counting),
+            5 => Ok(Kind::Symmetrisation),
+            6 => Ok(Kind::Scaling),
+            _ => Err(UnknownKind(number)),
         }
     }
 }
@@ -73,14 +94,14 @@ impl Rows {
         rows: [Row {
             kind: Kind::Threshold,
             parameter: 0,
-        }; 8],
+        }; MOST_ROWS],
     };
 
     // The rows that are meant.
     pub fn as_slice(&self) -> &[Row]
         ensures { result.now ≡ rows_in self.now }
     {
-        let count = self.count.min(8);
-        &self.rows[0..count]
+        let count = self.count.min(MOST_ROWS);
+        &self.rows[..count]
     }
 }

@@ -1,13 +1,12 @@
 // The values of a pile: what each row makes of the value below it, in one walk. The checks of a laid row make any other
-// check needless here.
-ghost use Rattle.std.specs.Prelude.{◌≡◌, ◌*◌, ◌/◌, ◌≤◌, true};
+// check needless here. So the formulas of the functions stand here once more: a function's own `value` checks the size
+// again, and a public function asks nothing of its callers.
+ghost use Rattle.std.specs.Prelude.{◌≡◌, ◌+◌, ◌*◌, ◌/◌, ◌≤◌, Some, drop};
 ghost use Rattle.dual_feasible.specs.Answers.{valued};
-ghost use Rattle.dual_feasible.specs.Laws.{InRange, greatest};
-ghost use Rattle.functions.specs.Values.{identity, threshold, rounding, counting};
-ghost use Rattle.layers.specs.Layers.{mirrored};
+ghost use Rattle.dual_feasible.specs.Laws.{greatest};
+ghost use Rattle.functions.specs.Values.{threshold, rounding, counting};
 ghost use Rattle.piles.specs.Contents.{pile_rows};
-ghost use Rattle.piles.specs.Layered.{image_of, values_of, layered, layered_image};
-ghost use Rattle.piles.specs.Standing.{rows_of, accepted, stands, topmost};
+ghost use Rattle.piles.specs.Layered.{layered, layered_image};
 ghost use Rattle.piles.specs.Walks.{raised, climbed, Climbs};
 ghost use Rattle.piles.specs.LaidLaw.{laid_lawful};
 ghost use Rattle.piles.specs.Relaying.{pile_again};
@@ -18,67 +17,67 @@ use dual_feasible::DualFeasible;
 use dual_feasible::checks::check_size;
 use faults::Fault;
 
-fn threshold_value(below: u64, t: u64, value: u64) -> u64
-    requires { 2 * t ≤ below }
-    ensures { result ≡ threshold below t value }
-{
-    if value > below - t {
-        return below;
-    }
-    if t <= value { value } else { 0 }
-}
-
-fn rounding_value(below: u64, k: u64, value: u64) -> u64
-    requires range { k ≤ 1000 }
-    requires limits { InRange below }
-    requires value { value ≤ below }
-    ensures { result ≡ rounding below k value }
-{
-    let scaled = (k + 1) * value;
-    if scaled % below == 0 {
-        return value * k;
-    }
-    below * (scaled / below)
-}
-
-fn counting_value(below: u64, e: u64, value: u64) -> u64
-    requires range { 1 ≤ e }
-    requires limits { below ≤ greatest }
-    requires value { value ≤ below }
-    ensures { result ≡ counting below e value }
-{
-    if 2 * value > below {
-        return below / e - (below - value) / e;
-    }
-    if e <= value { 1 } else { 0 }
-}
-
-fn scaled_value(below: u64, target: u64, value: u64) -> u64
-    requires target { target ≤ greatest }
-    requires limits { InRange below }
-    requires value { value ≤ below }
-    ensures { result ≡ value * target / below }
-{
-    value * target / below
-}
-
 impl Step {
+    // The value of a threshold row.
+    fn cut_off(self, value: u64) -> u64
+        requires { 2 * self.row.parameter ≤ self.below }
+        ensures { result ≡ threshold self.below self.row.parameter value }
+    {
+        let t = self.row.parameter;
+        if value > self.below - t {
+            return self.below;
+        }
+        if t <= value { value } else { 0 }
+    }
+
+    // The value of a rounding row.
+    fn round(self, value: u64) -> u64
+        requires range { self.row.parameter ≤ 1000 }
+        requires value { value ≤ self.below }
+        ensures { result ≡ rounding self.below self.row.parameter value }
+    {
+        let k = self.row.parameter;
+        let scaled = (k + 1) * value;
+        if scaled % self.below == 0 {
+            return value * k;
+        }
+        self.below * (scaled / self.below)
+    }
+
+    // The value of a counting row.
+    fn count(self, value: u64) -> u64
+        requires range { 1 ≤ self.row.parameter }
+        requires value { value ≤ self.below }
+        ensures { result ≡ counting self.below self.row.parameter value }
+    {
+        let e = self.row.parameter;
+        if 2 * value > self.below {
+            return self.below / e - (self.below - value) / e;
+        }
+        u64::from(e <= value)
+    }
+
+    // The value of a scaling row.
+    fn scale(self, value: u64) -> u64
+        requires target { self.row.parameter ≤ greatest }
+        requires value { value ≤ self.below }
+        ensures { result ≡ value * self.row.parameter / self.below }
+    {
+        value * self.row.parameter / self.below
+    }
+
     // What the row makes of the value below it.
     fn raise(self, value: u64) -> u64
-        requires row { accepted self.row.kind self.below self.row.parameter ≡ true }
-        requires limits { InRange self.below }
-        requires value { value ≤ self.below }
+        requires { value ≤ self.below }
         ensures { result ≡ raised self.row.kind self.below self.row.parameter value }
     {
-        let below = self.below;
-        let parameter = self.row.parameter;
         match self.row.kind {
-            Kind::Threshold => threshold_value(below, parameter, value),
-            Kind::Rounding => rounding_value(below, parameter, value),
-            Kind::Division => value / parameter,
-            Kind::Counting => counting_value(below, parameter, value),
+            Kind::Threshold => self.cut_off(value),
+            Kind::Rounding => self.round(value),
+            Kind::Division => value / self.row.parameter,
+            Kind::Counting => self.count(value),
             Kind::Symmetrisation => 2 * value,
-            Kind::Scaling => scaled_value(below, parameter, value),
+            Kind::Scaling => self.scale(value),
         }
     }
 }
@@ -95,39 +94,37 @@ fn climb(steps: &[Step], start: u64) -> u64
     value
 }
 
-// The value of a symmetrisation, which lies over the image capacity `below` of the steps beneath it. They are asked below
-// half the capacity alone, where every symmetrisation among them only doubles.
-fn mirrored_value(capacity: u64, steps: &[Step], below: u64, size: u64) -> u64
-    requires limits { InRange capacity }
-    requires standing { stands capacity steps.now ≡ true }
-    requires image { below ≡ image_of capacity (rows_of steps.now) }
-    requires twice { 2 * below ≤ greatest }
-    requires size { size ≤ capacity }
-    ensures value { result ≡ mirrored capacity below (values_of capacity capacity identity (rows_of steps.now)) size }
-    ensures within { result ≤ 2 * below }
-{
-    if 2 * size < capacity {
-        return 2 * climb(steps, size);
+impl Pile {
+    // The value of the topmost symmetrisation, row `top`, which the steps above it carry up. The steps beneath it are asked
+    // below half the capacity alone, where every symmetrisation among them only doubles.
+    #[tactic(auto, using(crate::proofs::Mirroring::around_top))]
+    fn mirrored(&self, top: usize, size: u64) -> u64
+        requires top { self.now.mirror ≡ Some top }
+        requires size { size ≤ self.now.capacity }
+        ensures climbs { Climbs result (drop (top + 1) self.now.steps.items) }
+        ensures value { climbed result (drop (top + 1) self.now.steps.items) ≡ layered self.now.capacity (pile_rows self.now) size }
+    {
+        let steps = self.steps.as_slice();
+        let beneath = &steps[..top];
+        let below = steps[top].below;
+        if 2 * size < self.capacity {
+            return 2 * climb(beneath, size);
+        }
+        if 2 * size == self.capacity {
+            return below;
+        }
+        2 * below - 2 * climb(beneath, self.capacity - size)
     }
-    if 2 * size == capacity {
-        return below;
-    }
-    2 * below - 2 * climb(steps, capacity - size)
-}
 
-// The value of all steps at a size up to the capacity. The topmost symmetrisation alone has to mirror.
-fn stacked_value(capacity: u64, steps: &[Step], mirror: Option<usize>, size: u64) -> u64
-    requires limits { InRange capacity }
-    requires standing { stands capacity steps.now ≡ true }
-    requires top { topmost mirror (rows_of steps.now) ≡ true }
-    requires size { size ≤ capacity }
-    ensures { result ≡ layered capacity (rows_of steps.now) size }
-{
-    match mirror {
-        None => climb(steps, size),
-        Some(top) => {
-            let value = mirrored_value(capacity, &steps[0..top], steps[top].below, size);
-            climb(&steps[top + 1..], value)
+    // The value of all rows at a size up to the capacity. The topmost symmetrisation alone has to mirror.
+    #[tactic(auto, using(crate::proofs::Mirroring::inside, crate::proofs::Climbing::values_climbed))]
+    fn stacked(&self, size: u64) -> u64
+        requires { size ≤ self.now.capacity }
+        ensures { result ≡ layered self.now.capacity (pile_rows self.now) size }
+    {
+        match self.mirror {
+            None => climb(&self.steps, size),
+            Some(top) => climb(&self.steps[top + 1..], self.mirrored(top, size)),
         }
     }
 }
@@ -155,6 +152,6 @@ impl DualFeasible for Pile {
         ensures { result ≡ valued self.now.capacity (layered self.now.capacity (pile_rows self.now)) size }
     {
         check_size(self.capacity, size)?;
-        Ok(stacked_value(self.capacity, &self.steps[0..self.count], self.mirror, size))
+        Ok(self.stacked(size))
     }
 }

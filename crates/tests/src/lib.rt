@@ -10,6 +10,10 @@ mod functions_tests;
 #[cfg(test)]
 mod layers_tests;
 #[cfg(test)]
+mod pile_text_tests;
+#[cfg(test)]
 mod piles_tests;
 #[cfg(test)]
 mod text_tests;
+#[cfg(test)]
+mod texts;

@@ -15,15 +15,7 @@ use std::test::Fail;
 
 // Whether two functions have the same capacities and the same value at each size up to a limit above the capacity.
 fn same<F: DualFeasible, G: DualFeasible>(f: &F, g: &G, limit: u64) -> bool {
-    if f.capacities() != g.capacities() {
-        return false;
-    }
-    for size in 0..limit {
-        if f.value(size) != g.value(size) {
-            return false;
-        }
-    }
-    true
+    f.capacities() == g.capacities() && (0..limit).all(|size| f.value(size) == g.value(size))
 }
 
 // The pile of rows of kind and parameter.
@@ -57,14 +49,6 @@ fn piles_and_layers(rt: HostRuntime) -> Result<(), Fail> {
     Ok(())
 }
 
-fn fault(refusal: Refusal, layer: Layer, figure: u64) -> Fault {
-    Fault {
-        refusal,
-        layer,
-        figure,
-    }
-}
-
 // The answer to one row more, and the rows after it.
 fn laid(
     capacity: u64,
@@ -78,7 +62,7 @@ fn laid(
 }
 
 fn refused(refusal: Refusal, row: u64) -> Result<(), Fault> {
-    Err(fault(refusal, Layer::Pile, row))
+    Err(Fault::new(refusal, Layer::Pile, row))
 }
 
 #[test]
@@ -160,11 +144,11 @@ fn a_bank_of_piles(rt: HostRuntime) -> Result<(), Fail> {
     assert_eq!(rt; best(&bank, &[])?, 0);
     assert_eq!(rt;
         bank.best_pile(&[11; 65]),
-        Err(fault(Refusal::TooMany, Layer::Bound, 64))
+        Err(Fault::new(Refusal::TooMany, Layer::Bound, 64))
     );
     assert_eq!(rt;
         bank.number(&[10, 11]),
-        Err(fault(Refusal::Size, Layer::Bound, 1))
+        Err(Fault::new(Refusal::Size, Layer::Bound, 1))
     );
     Ok(())
 }
@@ -177,17 +161,17 @@ fn piles_refused_by_a_bank(rt: HostRuntime) -> Result<(), Fail> {
     for _ in 0..8 {
         assert_eq!(rt;
             bank.add(&stranger),
-            Err(fault(Refusal::CapacitiesDiffer, Layer::Bound, 11))
+            Err(Fault::new(Refusal::CapacitiesDiffer, Layer::Bound, 11))
         );
         assert_eq!(rt; bank.add(&own), Ok(()));
     }
     assert_eq!(rt;
         bank.add(&own),
-        Err(fault(Refusal::TooMany, Layer::Bound, 8))
+        Err(Fault::new(Refusal::TooMany, Layer::Bound, 8))
     );
     assert_eq!(rt;
         bank.add(&stranger),
-        Err(fault(Refusal::CapacitiesDiffer, Layer::Bound, 11))
+        Err(Fault::new(Refusal::CapacitiesDiffer, Layer::Bound, 11))
     );
     assert_eq!(rt; bank.number(&[10; 64]), Ok(64));
     Ok(())

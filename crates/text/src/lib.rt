@@ -14,9 +14,9 @@ use rows::FunctionRows;
 use std::alloc::{AllocError, Global};
 
 mod function;
-mod kinds;
+pub mod kinds;
 mod lower;
-mod rows;
+pub mod rows;
 
 // The lower figure of a cutting list, `lower N`, or its first refusal, `refused NUMBER line LINE`. Want of memory is the one
 // other answer. No plan of the list has fewer bars than the figure says, and the list is what the lines of the input say.

@@ -18,8 +18,8 @@ const MOST_ROWS: usize = 8;
 // The functions that the rows name, made for the bar's capacity. The table is fixed, so that reading meets no want of memory.
 #[derive(Drop)]
 pub struct FunctionRows {
-    pub capacity: u64,
-    pub functions: ArrayVec<Function, MOST_ROWS>,
+    pub(crate) capacity: u64,
+    pub(crate) functions: ArrayVec<Function, MOST_ROWS>,
     ghost limits: { InRange capacity },
     ghost same: { all_for capacity functions.items ≡ true },
 }

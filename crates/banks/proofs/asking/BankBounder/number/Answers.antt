@@ -1,18 +1,17 @@
-use Rattle.std.proofs.Common.{ℕ, Ok, Option, sym, ap, ◌∙◌}
-use Rattle.std.proofs.lemmas.Result.{err_from_is_err_and}
-use Rattle.bounds.proofs.Entries.{asked_refused, asked_answered}
-use Rattle.banks.specs.Banks.{bank_number, surveyed}
+use Rattle.std.proofs.Common.{ℕ, Option, ap, ◌∙◌, rules}
+use Rattle.banks.specs.Banks.{bank_number}
 use Rattle.banks.specs.Contents.{bank_piles}
+use Rattle.banks.proofs.Surveys.{bound_found, survey_refused, survey_told}
 use Rattle.banks.proofs.asking.BankBounder.number.Goals as goal
 
-pub returns-in_err-greatest : goal.returns-in_err-greatest
-returns-in_err-greatest c =
+pub returns-in_err-best : goal.returns-in_err-best
+returns-in_err-best c =
     let b = c.args.self.now in
-    let q = err_from_is_err_and c.from_residual.result c.from_residual.ensures.1 in
-    rw (q.1, q.2) (asked_refused b.capacity (surveyed b.capacity (bank_piles b)) (bank_number b.capacity (bank_piles b)) c.args.list.now c.in_err-greatest.field-0.0 c.in_err-greatest.ensures)
+    survey_refused b c.args.list.now (bank_number b.capacity (bank_piles b)) c.in_err-best.field-0.0 c.from_residual.result c.in_err-best.ensures c.from_residual.ensures.1
 
 pub returns : goal.returns
 returns c =
     let b = c.args.self.now in
-    let a = asked_answered b.capacity (surveyed b.capacity (bank_piles b)) (bank_number b.capacity (bank_piles b)) c.args.list.now (c.in_ok-greatest.greatest, c.in_ok-greatest.field-0-1) c.in_ok-greatest.ensures in
-    ap (λ (p : ℕ × Option ℕ). Ok p.0) a.0 ∙ sym a.1
+    let best = c.in_ok-best.best in
+    survey_told b c.args.list.now (bank_number b.capacity (bank_piles b)) best c.in_ok-best.ensures c.map_or-greatest.result
+    (λ e. bound_found best _ c.map_or-greatest.result (λ found p. search rules) c.map_or-greatest.ensures ∙ ap (λ (p : ℕ × Option ℕ). p.0) e)

@@ -1,18 +1,17 @@
-use Rattle.std.proofs.Common.{ℕ, Ok, Option, sym, ap, ◌∙◌}
-use Rattle.std.proofs.lemmas.Result.{err_from_is_err_and}
-use Rattle.bounds.proofs.Entries.{asked_refused, asked_answered}
-use Rattle.banks.specs.Banks.{best_pile_of, surveyed}
+use Rattle.std.proofs.Common.{ℕ, Option, ap, ◌∙◌, rules}
+use Rattle.banks.specs.Banks.{best_pile_of}
 use Rattle.banks.specs.Contents.{bank_piles}
+use Rattle.banks.proofs.Surveys.{pile_found, survey_refused, survey_told}
 use Rattle.banks.proofs.bank.Bank.best_pile.Goals as goal
 
 pub returns-in_err-best : goal.returns-in_err-best
 returns-in_err-best c =
     let b = c.args.self.now in
-    let q = err_from_is_err_and c.from_residual.result c.from_residual.ensures.1 in
-    rw (q.1, q.2) (asked_refused b.capacity (surveyed b.capacity (bank_piles b)) (best_pile_of b.capacity (bank_piles b)) c.args.list.now c.in_err-best.field-0.0 c.in_err-best.ensures)
+    survey_refused b c.args.list.now (best_pile_of b.capacity (bank_piles b)) c.in_err-best.field-0.0 c.from_residual.result c.in_err-best.ensures c.from_residual.ensures.1
 
 pub returns : goal.returns
 returns c =
     let b = c.args.self.now in
-    let a = asked_answered b.capacity (surveyed b.capacity (bank_piles b)) (best_pile_of b.capacity (bank_piles b)) c.args.list.now (c.in_ok-best.field-0-0, c.in_ok-best.best) c.in_ok-best.ensures in
-    ap (λ (p : ℕ × Option ℕ). Ok p.1) a.0 ∙ sym a.1
+    let best = c.in_ok-best.best in
+    survey_told b c.args.list.now (best_pile_of b.capacity (bank_piles b)) best c.in_ok-best.ensures c.map-number.result
+    (λ e. pile_found best _ c.map-number.result (λ found pile p. search rules) c.map-number.ensures.cases ∙ ap (λ (p : ℕ × Option ℕ). p.1) e)

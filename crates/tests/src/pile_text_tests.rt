@@ -1,8 +1,7 @@
-// Texts, and what is printed of them.
-use faults::{Fault, Layer, Refusal};
+// Texts whose rows are laid on a pile, and what is printed of them.
+use crate::texts::{check_cases, check_repeated, fault, fault_of, repeated};
+use faults::{Layer, Refusal};
 use pile_text::answer;
-use std::alloc::{AllocError, Global};
-use std::process::Abort;
 use std::test::Fail;
 
 // A text and the line that answers it.
@@ -103,129 +102,84 @@ const CASES: [(&str, &str); 49] = [
 
 #[test]
 fn cases(rt: HostRuntime) -> Result<(), Fail> {
-    for (text, line) in CASES {
-        let printed = answer(rt.alloc(), text.as_bytes())?;
-        assert!(rt; printed.text.as_str() == line, "{}", text);
-        assert!(rt;
-            printed.refused.is_some() == line.starts_with("refused"),
-            "{}",
-            text
-        );
-    }
-    Ok(())
-}
-
-// The fault of a text, where it is refused.
-fn fault_of(heap: Global, text: &[u8]) -> Result<Option<Fault>, AllocError> {
-    let printed = answer(heap, text)?;
-    Ok(printed.refused)
-}
-
-fn fault(refusal: Refusal, layer: Layer, figure: u64) -> Option<Fault> {
-    Some(Fault {
-        refusal,
-        layer,
-        figure,
-    })
+    check_cases(&rt, rt.alloc(), answer, &CASES)
 }
 
 #[test]
 fn faults_whole(rt: HostRuntime) -> Result<(), Fail> {
     let heap = rt.alloc();
-    assert_eq!(rt; fault_of(heap, b"bar 8\n")?, None);
+    assert_eq!(rt; fault_of(heap, answer, b"bar 8\n")?, None);
     assert_eq!(rt;
-        fault_of(heap, b"bar 0\n")?,
+        fault_of(heap, answer, b"bar 0\n")?,
         fault(Refusal::Capacity, Layer::Pile, 0)
     );
     assert_eq!(rt;
-        fault_of(heap, b"bar 10\nthreshold 6\n")?,
+        fault_of(heap, answer, b"bar 10\nthreshold 6\n")?,
         fault(Refusal::Parameter, Layer::Pile, 0)
     );
     assert_eq!(rt;
-        fault_of(heap, b"bar 10\nthreshold 5\ncut 3\ncounting 6\n")?,
+        fault_of(heap, answer, b"bar 10\nthreshold 5\ncut 3\ncounting 6\n")?,
         fault(Refusal::Parameter, Layer::Pile, 1)
     );
     assert_eq!(rt;
-        fault_of(heap, b"bar 10\ncounting 3\nsymmetrise 0\n")?,
+        fault_of(heap, answer, b"bar 10\ncounting 3\nsymmetrise 0\n")?,
         fault(Refusal::CountingBeneath, Layer::Pile, 1)
     );
     assert_eq!(rt;
-        fault_of(heap, b"bar 1000001\nrounding 1000\n")?,
+        fault_of(heap, answer, b"bar 1000001\nrounding 1000\n")?,
         fault(Refusal::ImageCapacity, Layer::Pile, 0)
     );
     assert_eq!(rt;
-        fault_of(heap, b"bar 10\ncut 11\n")?,
+        fault_of(heap, answer, b"bar 10\ncut 11\n")?,
         fault(Refusal::Size, Layer::Text, 11)
     );
     assert_eq!(rt;
-        fault_of(heap, b"bar 10\ncut 1\ncut\n")?,
+        fault_of(heap, answer, b"bar 10\ncut 1\ncut\n")?,
         fault(Refusal::Malformed, Layer::Text, 3)
     );
-    Ok(())
-}
-
-// A text that repeats one line after the others.
-fn repeated(heap: Global, first: &str, line: &str, times: usize) -> Result<String, AllocError> {
-    let mut text = String::from_str(heap, first)?;
-    for _ in 0..times {
-        text.push_str(line)?;
-    }
-    Ok(text)
-}
-
-fn check_answer(rt: &impl Abort, heap: Global, text: &String, line: &str) -> Result<(), Fail> {
-    let printed = answer(heap, text.as_bytes())?;
-    assert!(rt; printed.text.as_str() == line, "{}", line);
     Ok(())
 }
 
 #[test]
 fn limits(rt: HostRuntime) -> Result<(), Fail> {
     let heap = rt.alloc();
-    check_answer(
+    check_repeated(&rt, heap, answer, ("bar 8\n", "cut 1\n", 64), "lower 8\n")?;
+    check_repeated(
         &rt,
         heap,
-        &repeated(heap, "bar 8\n", "cut 1\n", 64)?,
-        "lower 8\n",
-    )?;
-    check_answer(
-        &rt,
-        heap,
-        &repeated(heap, "bar 8\n", "cut 1\n", 65)?,
+        answer,
+        ("bar 8\n", "cut 1\n", 65),
         "refused 6 line 66\n",
     )?;
-    check_answer(
+    check_repeated(
         &rt,
         heap,
-        &repeated(heap, "bar 8\ncut 8\n", "threshold 4\n", 8)?,
+        answer,
+        ("bar 8\ncut 8\n", "threshold 4\n", 8),
         "lower 1\n",
     )?;
-    check_answer(
+    check_repeated(
         &rt,
         heap,
-        &repeated(heap, "bar 8\ncut 8\n", "threshold 5\n", 8)?,
+        answer,
+        ("bar 8\ncut 8\n", "threshold 5\n", 8),
         "refused 2 line 3\n",
     )?;
-    check_answer(
+    check_repeated(
         &rt,
         heap,
-        &repeated(heap, "bar 8\ncut 8\n", "threshold 4\n", 9)?,
+        answer,
+        ("bar 8\ncut 8\n", "threshold 4\n", 9),
         "refused 6 line 11\n",
     )?;
     assert_eq!(rt;
-        fault_of(heap, repeated(heap, "bar 8\n", "scale 8\n", 9)?.as_bytes())?,
+        fault_of(
+            heap,
+            answer,
+            repeated(heap, "bar 8\n", "scale 8\n", 9)?.as_bytes()
+        )?,
         fault(Refusal::TooMany, Layer::Pile, 8)
     );
-    check_answer(
-        &rt,
-        heap,
-        &repeated(heap, "", "#", 65_536)?,
-        "refused 12 line 1\n",
-    )?;
-    check_answer(
-        &rt,
-        heap,
-        &repeated(heap, "", "#", 65_537)?,
-        "refused 12 line 0\n",
-    )
+    check_repeated(&rt, heap, answer, ("", "#", 65_536), "refused 12 line 1\n")?;
+    check_repeated(&rt, heap, answer, ("", "#", 65_537), "refused 12 line 0\n")
 }

@@ -1,5 +1,0 @@
-// Texts, and what is printed of them.
-#![tactic(auto)]
-
-#[cfg(test)]
-mod answers;
