@@ -39,6 +39,7 @@ pub fn lower_bound<F: DualFeasible>(f: &F, list: &[u64]) -> Result<u64, Fault>
     let (_, image) = f.capacities();
     let mut total = 0;
     for (i, size) in list.iter().enumerate() {
+        // The function's own fault names the size; a bounder's names its position, so that fault is let go.
         let Ok(value) = f.value(*size) else {
             return Err(Fault::new(Refusal::Size, Layer::Bound, i as u64));
         };

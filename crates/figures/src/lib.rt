@@ -10,6 +10,8 @@ const LAYER_FIGURES: usize = 6;
 
 const WRONG: usize = 2;
 
+// Three functions, since the contract of each names a theorem of its own.
+
 // How many figures the table has. Each is what the rules give.
 pub fn worked_figures() -> usize
     ensures count { result ≡ length figures }

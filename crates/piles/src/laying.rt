@@ -161,6 +161,7 @@ impl Pile {
         if self.steps.is_full() {
             return Err(Fault::new(Refusal::TooMany, Layer::Pile, MOST_ROWS as u64));
         }
+        // A kind comes as its number, so that an unknown one has its refusal, which names the row and not the number.
         let Ok(kind) = Kind::try_from(kind) else {
             return Err(Fault::new(Refusal::Parameter, Layer::Pile, self.steps.len() as u64));
         };
