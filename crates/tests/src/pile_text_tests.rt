@@ -101,12 +101,12 @@ const CASES: [(&str, &str); 49] = [
 ];
 
 #[test]
-fn cases(rt: HostRuntime) -> Result<(), Fail> {
+fn pile_text_cases(rt: HostRuntime) -> Result<(), Fail> {
     check_cases(&rt, rt.alloc(), answer, &CASES)
 }
 
 #[test]
-fn faults_whole(rt: HostRuntime) -> Result<(), Fail> {
+fn pile_text_faults_whole(rt: HostRuntime) -> Result<(), Fail> {
     let heap = rt.alloc();
     assert_eq!(rt; fault_of(heap, answer, b"bar 8\n")?, None);
     assert_eq!(rt;
@@ -141,7 +141,7 @@ fn faults_whole(rt: HostRuntime) -> Result<(), Fail> {
 }
 
 #[test]
-fn limits(rt: HostRuntime) -> Result<(), Fail> {
+fn pile_text_limits(rt: HostRuntime) -> Result<(), Fail> {
     let heap = rt.alloc();
     check_repeated(&rt, heap, answer, ("bar 8\n", "cut 1\n", 64), "lower 8\n")?;
     check_repeated(
