@@ -45,7 +45,7 @@ impl<R: Rows> Listing<R> {
             return Err(Fault::new(Refusal::Size, Layer::Text, size));
         }
         if self.cuts.len() >= MOST_CUTS {
-            return Err(Fault::new(Refusal::TooMany, Layer::Text, 64));
+            return Err(Fault::new(Refusal::TooMany, Layer::Text, MOST_CUTS as u64));
         }
         self.cuts.push_reserved(size);
         Ok(())

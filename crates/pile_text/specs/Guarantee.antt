@@ -30,11 +30,13 @@ use Rattle.pile_text.specs.Lower.{lower_of}
 abbrev OnPile : ℕ → List Row → Type 0
 OnPile c rows = pile_of c rows ≡ Ok (c, rows)
 
+-- what the `bar` line begins is a pile
 new_on_pile : (n : ℕ) (p : ℕ × List Row) → pile_made n ≡ Ok p → OnPile p.0 p.1
 new_on_pile n p e =
     let a = passed (outside 1 greatest n) (fault Capacity Pile n) (Ok (n, [])) p e in
     subst (λ (q : ℕ × List Row). OnPile q.0 q.1) (same_answer {E = Fault} (n, []) p a.1) (pile_from n [] (within 1 greatest n a.0) refl)
 
+-- and so it stays with each row more
 piles_keep : Keeps pile_laying OnPile
 piles_keep =
     record {
@@ -42,6 +44,7 @@ piles_keep =
       added = λ c rows kind n next kept e. let p = pile_parts c rows kept in pile_from c next p.0 (laid_again c rows kind n next p.1 e);
     }
 
+-- no plan has fewer bars than the lower figure of a list whose rows lie on a pile
 lower_sound : (c : ℕ) (cuts : List ℕ) (rows : List Row) → Kept OnPile c cuts rows → AtLeast c cuts (lower_of c cuts rows)
 lower_sound c cuts rows kept =
     let p = pile_parts c rows kept.ruled in
@@ -50,9 +53,11 @@ lower_sound c cuts rows kept =
     (λ list few. bank_sound c (rows ∷ []) list (and_from (is_ok (pile_of c rows)) true (ap is_ok kept.ruled) refl))
     cuts kept.few
 
+-- and so it is of whatever a text is read as
 told : (r : Result (CuttingList Row) Stop) → ((l : CuttingList Row) → r ≡ Ok l → Kept OnPile l.capacity l.cuts l.rows) → NoFewerBars lower_of r
 told (Ok l) kept = lower_sound l.capacity l.cuts l.rows (kept l refl)
 told (Err e) kept = tt
 
+-- no plan of the list of a text has fewer bars than its lower figure says
 pub no_fewer_bars : (text : List ℕ) → NoFewerBars lower_of (list_of text)
 no_fewer_bars text = told (list_of text) (λ l e. list_kept pile_laying OnPile piles_keep kind_words text l e)

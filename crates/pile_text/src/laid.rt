@@ -13,7 +13,7 @@ use piles::rows::{Kind, Row};
 // The pile of a text's rows, as a type of this crate.
 #[derive(Drop)]
 pub struct LaidRows {
-    pub(crate) pile: Pile,
+    pub pile: Pile,
 }
 
 impl RowWords for LaidRows {

@@ -61,6 +61,7 @@ row_lawful Counting c p made e =
     let half : 2 * p ≤ c = ltb-false c (2 * p) o.1 in
     (counting_lawful c p low, le-div 1 c p low (omega (arith, one-mul p)))
 
+-- what the `bar` line begins keeps to the rules of rows
 bar_makes : (n : ℕ) (p : ℕ × List Row) → bar_begun n ≡ Ok p → Makes p.0 p.1
 bar_makes n p e =
     let h = and_then_parts (identity_made n) (λ c. Ok (c, [])) p e in
@@ -68,6 +69,7 @@ bar_makes n p e =
     let new : Makes n [] = record { bar = ap is_ok h.1; made = tt } in
     subst (λ (q : ℕ × List Row). Makes q.0 q.1) (same_answer {E = Fault} (h.0, []) p h.2) (subst (λ (c : ℕ). Makes c []) same new)
 
+-- and so does one row more
 row_makes : (c : ℕ) (rows : List Row) (kind : Kind) (n : ℕ) (next : List Row) → Makes c rows → row_added c rows kind n ≡ Ok next → Makes c next
 row_makes c rows kind n next makes e =
     let row : Row = record { kind = kind; parameter = n } in
@@ -79,6 +81,7 @@ row_makes c rows kind n next makes e =
       made = All-push (λ (r : Row). is_ok (row_made r.kind c r.parameter) ≡ true) rows row makes.made (ap is_ok k.1);
     })
 
+-- no plan has fewer bars than the greatest of a bound and the bounds of rows that can be made
 greatest_sound : (c : ℕ) (cuts : List ℕ) (n : ℕ) (rows : List Row) → AtLeast c cuts n → AllByRecursion (λ row. is_ok (row_made row.kind c row.parameter) ≡ true) rows
     → AtLeast c cuts (greatest_of c cuts n rows)
 greatest_sound c cuts n [] least made = least
@@ -90,18 +93,22 @@ greatest_sound c cuts n (row ∷ rows) least made =
     (λ m plan packs. let p = least m plan packs in let q = new m plan packs in omega arith)
     made.1
 
+-- nor than the lower figure of a list that keeps to the rules
 lower_sound : (c : ℕ) (cuts : List ℕ) (rows : List Row) → Kept Makes c cuts rows → AtLeast c cuts (lower_of c cuts rows)
 lower_sound c cuts rows kept =
     let m = ok_made (identity_made c) kept.ruled.bar in
     let r = in_range c (Ok c) m.0 m.1 in
     greatest_sound c cuts (bound c identity cuts) rows (bound_sound c c identity r.0.0 (λ sizes h. h) cuts) kept.ruled.made
 
+-- and so it is of whatever a text is read as
 told : (r : Result (CuttingList Row) Stop) → ((l : CuttingList Row) → r ≡ Ok l → Kept Makes l.capacity l.cuts l.rows) → NoFewerBars lower_of r
 told (Ok l) kept = lower_sound l.capacity l.cuts l.rows (kept l refl)
 told (Err e) kept = tt
 
+-- the rows of a text keep to the rules, line by line
 functions_keep : Keeps function_laying Makes
 functions_keep = record { begun = bar_makes; added = row_makes }
 
+-- no plan of the list of a text has fewer bars than its lower figure says
 pub no_fewer_bars : (text : List ℕ) → NoFewerBars lower_of (list_of text)
 no_fewer_bars text = told (list_of text) (λ l e. list_kept function_laying Makes functions_keep kind_words text l e)

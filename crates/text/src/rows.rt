@@ -63,7 +63,7 @@ impl Rows for FunctionRows {
 
     fn add(&mut self, kind: Kind, parameter: u64) -> Result<(), Fault> {
         if self.functions.len() >= MOST_ROWS {
-            return Err(Fault::new(Refusal::TooMany, Layer::Text, 8));
+            return Err(Fault::new(Refusal::TooMany, Layer::Text, MOST_ROWS as u64));
         }
         self.functions
             .push(Function::new(self.capacity, kind, parameter)?);
