@@ -16,16 +16,6 @@ pub mod greater;
 // A list has at most this many entries.
 pub const MOST: usize = 64;
 
-// A quotient, rounded up.
-fn rounded_up(total: u64, image: u64) -> u64
-    requires positive { 1 ≤ image }
-    requires fits { total + image < 2 ^ 64 }
-    ensures { result ≡ (total + (image - 1)) / image }
-{
-    let most_left = image - 1;
-    (total + most_left) / image
-}
-
 // The bound of a dual feasible function: the values of the list added up, divided by the image capacity and rounded up.
 // A list of more than 64 entries is refused with 6, then the first entry above the capacity with 4 and its position.
 // No plan of the list has fewer bars.
@@ -39,13 +29,14 @@ pub fn lower_bound<F: DualFeasible>(f: &F, list: &[u64]) -> Result<u64, Fault>
     let (_, image) = f.capacities();
     let mut total = 0;
     for (i, size) in list.iter().enumerate() {
-        // The function's own fault names the size; a bounder's names its position, so that fault is let go.
+        // The function's own fault names the size; a bounder's names its position. `check_list` first would be a second walk
+        // over the list, at each bound that is asked.
         let Ok(value) = f.value(*size) else {
             return Err(Fault::new(Refusal::Size, Layer::Bound, i as u64));
         };
         total += value;
     }
-    Ok(rounded_up(total, image))
+    Ok(total.div_ceil(image))
 }
 
 // A bounder: it tells a number for each list, and no plan of the list has fewer bars.
