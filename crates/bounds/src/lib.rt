@@ -1,7 +1,7 @@
 // Lower bounds on the number of bars that a list of sizes needs.
 #![tactic(auto)]
 
-ghost use Rattle.std.specs.Prelude.{◌≡◌, ℕ, ◌+◌, ◌-◌, ◌/◌, ◌^◌, ◌<◌, ◌≤◌, List};
+ghost use Rattle.std.specs.Prelude.{◌≡◌, ℕ, List};
 ghost use Rattle.dual_feasible.specs.Laws.{InRange};
 ghost use Rattle.plans.specs.Plans.{AtLeast};
 ghost use Rattle.bounds.specs.Bounds.{asked, bound, Sound};

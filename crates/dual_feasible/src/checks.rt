@@ -8,7 +8,8 @@ use faults::{Fault, Layer, Refusal};
 pub const GREATEST: u64 = 1_000_000_000;
 
 // A capacity outside 1 to 1,000,000,000 is refused with 1, in the layer that was called. Whoever keeps a capacity says that
-// it is in range in a ghost field beside it: a type for capacities would put `f.capacity.value` into every clause and law.
+// it is in range in a ghost field beside it: a type for capacities would put `f.capacity.value` into every clause and law, or,
+// with a model, keep from the laws that it is in range.
 pub fn check_capacity(layer: Layer, capacity: u64) -> Result<(), Fault>
     ensures { result ≡ capacity_check layer capacity (Ok tt) }
 {

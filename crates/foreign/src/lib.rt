@@ -1,4 +1,4 @@
-// A function of one's own: what a user of the library writes to meet both interfaces from another crate.
+// What a user of the library writes to meet its interfaces from another crate: a function, a bounder, and layers stacked.
 #![tactic(auto)]
 
 ghost use Rattle.std.specs.Prelude.{◌≡◌, Ok};

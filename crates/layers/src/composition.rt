@@ -48,8 +48,8 @@ fn composed_value<O: DualFeasible, I: DualFeasible>(
     outer.value(value)
 }
 
-// It compares the two capacities at each question, since no invariant can speak of what lies below: where they differ, it
-// means 0 everywhere.
+// It is total in meaning, as every layer of this project is: it compares the two capacities at each question, and where they
+// differ, it means 0 everywhere.
 impl<O: DualFeasible, I: DualFeasible> DualFeasible for Composition<O, I> {
     ghost capacity = { λ f. I.DualFeasible.capacity f.inner };
 

@@ -29,8 +29,8 @@ impl<F: Superadditive + Drop> Symmetrisation<F> {
     }
 }
 
-// It takes its meaning from the superadditive interface, and looks at the image capacity at each question, since no
-// invariant can speak of what lies below: where twice that is out of range, it means 0 everywhere.
+// It takes its meaning from the superadditive interface. It is total in meaning, as every layer of this project is: it looks
+// at the image capacity at each question, and where twice that is out of range, it means 0 everywhere.
 impl<F: Superadditive> DualFeasible for Symmetrisation<F> {
     ghost capacity = { λ f. F.Superadditive.capacity f.inner };
 

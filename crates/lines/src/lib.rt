@@ -76,7 +76,7 @@ pub fn entry<W: RowWords>(line: &[u8]) -> Option<(Word<W::Kind>, u64)>
     ensures { result ≡ entry_of W.words line.now }
 {
     let (front, back) = line.split_at(before_blank(line));
-    // Word, blank and number are taken apart by `let .. else`, as everywhere in this project, and not by `?`.
+    // A line is taken apart by `let .. else`, the form that this project keeps for it.
     let Some(word) = spelled_word::<W>(front) else {
         return None;
     };

@@ -55,10 +55,7 @@ impl<R: Rows> Listing<R> {
     fn read_cut(&mut self, at: u64, size: u64) -> Result<(), Fault>
         ensures { left result (content R.seen self.new) ≡ word_read R.laying at (bar_of R.seen self.old.rows) Word.Cut size (content R.seen self.old) }
     {
-        // Borrowed where they stand: `as_ref` and `ok_or` would say no more.
-        let Some(rows) = &self.rows else {
-            return Err(malformed(at));
-        };
+        let rows = self.rows.as_ref().ok_or(malformed(at))?;
         let capacity = rows.bar();
         self.add_cut(capacity, size)
     }
@@ -67,10 +64,7 @@ impl<R: Rows> Listing<R> {
     fn read_row(&mut self, at: u64, kind: R::Kind, parameter: u64) -> Result<(), Fault>
         ensures { left result (content R.seen self.new) ≡ word_read R.laying at (bar_of R.seen self.old.rows) (Word.Row kind) parameter (content R.seen self.old) }
     {
-        // Borrowed where they stand, as above.
-        let Some(rows) = &mut self.rows else {
-            return Err(malformed(at));
-        };
+        let rows = self.rows.as_mut().ok_or(malformed(at))?;
         rows.add(kind, parameter)
     }
 

@@ -48,7 +48,7 @@ impl<R: Rows> Listing<R> {
     fn scan(&mut self, text: &[u8]) -> Result<(), Stop>
         ensures { left result (content R.seen self.new) ≡ scanned R.words R.laying 1 (content R.seen self.old) [] text.now }
     {
-        // A `for` over `split_inclusive` was tried: its invariant would have to name what the closure computes.
+        // A `for` over `split_inclusive` was tried, and its invariant did not close: nothing names what its closure computes.
         let mut rest = text;
         let mut line = 1;
         while let Some(end) = line_end(rest) {

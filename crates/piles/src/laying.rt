@@ -171,7 +171,7 @@ impl Pile {
         Ok(())
     }
 
-    // The pile of plain rows, laid one after the other, or the first refusal.
+    // The pile of plain rows, laid one after the other by their numbers, as every row is, or the first refusal.
     pub fn from_rows(capacity: u64, rows: &[Row]) -> Result<Pile, Fault>
         ensures { outcome (λ p. (p.capacity, pile_rows p)) result ≡ pile_of capacity rows.now }
     {

@@ -1,5 +1,5 @@
 // Rows: a kind of function or layer, and its parameter.
-ghost use Rattle.std.specs.Prelude.{◌≡◌, ◌≤◌, true, length};
+ghost use Rattle.std.specs.Prelude.{◌≡◌, true};
 ghost use Rattle.dual_feasible.specs.Laws.{InRange};
 ghost use Rattle.piles.specs.Laying.{accepted};
 ghost use Rattle.piles.specs.Plain.{rows_in};

@@ -82,7 +82,7 @@ impl Step {
     }
 }
 
-// A value carried up some steps.
+// A value carried up some steps. A `fold` would ask that its closure takes any value, where `raise` takes one in range.
 fn climb(steps: &[Step], start: u64) -> u64
     requires { Climbs start steps.now }
     ensures { result ≡ climbed start steps.now }

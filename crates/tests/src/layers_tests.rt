@@ -1,9 +1,8 @@
 // Values and refusals of the layers.
 use crate::examples::{four, made, refused};
 use dual_feasible::DualFeasible;
-use faults::{Fault, Layer, Refusal};
+use faults::Refusal;
 use foreign::stacked::{scaled_counting, symmetrised_division};
-use functions::counting::Counting;
 use functions::division::Division;
 use functions::identity::Identity;
 use functions::rounding::Rounding;

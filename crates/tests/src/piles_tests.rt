@@ -121,14 +121,6 @@ fn rows_plain(rt: HostRuntime) -> Result<(), Fail> {
     Ok(())
 }
 
-// The number of a bank's best pile, where it has one.
-fn best(bank: &Bank, list: &[u64]) -> Result<u64, Fail> {
-    let Some(number) = bank.best_pile(list)? else {
-        return Err(Fail::new("no best pile"));
-    };
-    Ok(number)
-}
-
 #[test]
 fn a_bank_of_piles(rt: HostRuntime) -> Result<(), Fail> {
     let mut bank = Bank::new(10)?;
@@ -137,11 +129,11 @@ fn a_bank_of_piles(rt: HostRuntime) -> Result<(), Fail> {
     bank.add(&pile(10, &[])?)?;
     bank.add(&pile(10, &[(1, 0)])?)?;
     assert_eq!(rt; bank.number(&[4; 5]), Ok(2));
-    assert_eq!(rt; best(&bank, &[4; 5])?, 0);
+    assert_eq!(rt; bank.best_pile(&[4; 5]), Ok(Some(0)));
     bank.add(&pile(10, &[(2, 2)])?)?;
     assert_eq!(rt; bank.number(&[4; 5]), Ok(3));
-    assert_eq!(rt; best(&bank, &[4; 5])?, 2);
-    assert_eq!(rt; best(&bank, &[])?, 0);
+    assert_eq!(rt; bank.best_pile(&[4; 5]), Ok(Some(2)));
+    assert_eq!(rt; bank.best_pile(&[]), Ok(Some(0)));
     assert_eq!(rt;
         bank.best_pile(&[11; 65]),
         Err(Fault::new(Refusal::TooMany, Layer::Bound, 64))

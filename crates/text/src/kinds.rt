@@ -1,7 +1,7 @@
 // The kinds of rows that each name a function.
 
-// The function that a row names. A pile has two kinds more, whose words are out of form in these texts, so the kinds are
-// not the pile's.
+// The function that a row names. The pile's kinds would be no plainer here: two of them mean nothing in these texts, and
+// would need a case wherever a kind is matched. So would the pile's rows.
 #[derive(Clone, Copy, PartialEq, Eq, Debug)]
 pub enum Kind {
     Threshold,

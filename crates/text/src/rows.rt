@@ -8,8 +8,8 @@ ghost use Rattle.text.specs.Texts.{function_laying};
 use crate::function::Function;
 use crate::kinds::{Kind, Row};
 use arrayvec::ArrayVec;
+use dual_feasible::checks::check_capacity;
 use faults::{Fault, Layer, Refusal};
-use functions::identity::Identity;
 use lines::words::RowWords;
 use listings::rows::Rows;
 
@@ -50,7 +50,7 @@ impl Rows for FunctionRows {
     ghost laying = { function_laying };
 
     fn begin(capacity: u64) -> Result<FunctionRows, Fault> {
-        Identity::new(capacity)?;
+        check_capacity(Layer::Function, capacity)?;
         Ok(FunctionRows {
             capacity,
             functions: ArrayVec::new(),
