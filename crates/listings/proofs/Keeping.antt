@@ -1,4 +1,4 @@
--- Every list that is read keeps to its limits.
+-- Every list that is read keeps to its limits, and so no plan of it has fewer bars than its lower figure says.
 use Rattle.std.proofs.Common.{◌≡◌, ℕ, ◌+◌, ◌≤◌, true, false, eqb, ltb, leb, List, [], ◌∷◌, ◌++◌, length, Some, None, Ok, Err, Option, Result, sym, refl, subst, ⊎_elim, arith}
 use Rattle.std.proofs.ByRecursion.{All-push}
 use Rattle.std.proofs.lemmas.List.{length_push}
@@ -8,10 +8,12 @@ use Rattle.faults.specs.declared.Layer.TheVariants.{Text}
 use Rattle.faults.specs.declared.Refusal.TheVariants.{Size, TooMany}
 use Rattle.faults.specs.Faults.{fault, outside}
 use Rattle.faults.proofs.Refusals.{no_answer, passed, within, and_then_parts}
+use Rattle.plans.specs.Plans.{AtLeast}
 use Rattle.lines.specs.declared.Word.{Word}
 use Rattle.lines.specs.declared.Word.TheVariants.{Bar, Cut, Row as RowWord}
 use Rattle.lines.specs.Lines.{entry_of}
 use Rattle.lines.specs.Words.{Words}
+use Rattle.listings.specs.Answers.{NoFewerBars}
 use Rattle.listings.specs.Laying.{Laying}
 use Rattle.listings.specs.Kept.{Kept, Keeps}
 use Rattle.listings.specs.Listings.{Content, empty, word_read, entry_read, line_read}
@@ -98,3 +100,13 @@ module _ {Kind Row : Type 0} (laying : Laying Kind Row) (Rules : ℕ → List Ro
         (λ (p : ltb 65536 (length text) ≡ true). absurd (no_answer _ l (rw p at e)))
         (λ (p : ltb 65536 (length text) ≡ false). whole_kept (scanned words laying 1 empty [] text) l (λ s q. scan_kept 1 empty [] text s refl q) (rw p at e))
         (cases_Bool (ltb 65536 (length text)))
+
+    told : (figure : ℕ → List ℕ → List Row → ℕ) → ((c : ℕ) (cuts : List ℕ) (rows : List Row) → Kept Rules c cuts rows → AtLeast c cuts (figure c cuts rows)) → (r : Result (CuttingList Row) Stop)
+        → ((l : CuttingList Row) → r ≡ Ok l → Kept Rules l.capacity l.cuts l.rows) → NoFewerBars figure r
+    told figure sound (Ok l) kept = sound l.capacity l.cuts l.rows (kept l refl)
+    told figure sound (Err e) kept = tt
+
+    -- where a figure is a lower bound of each list that keeps to the rules, it is one of the list of every text
+    pub none_fewer : (figure : ℕ → List ℕ → List Row → ℕ) → ((c : ℕ) (cuts : List ℕ) (rows : List Row) → Kept Rules c cuts rows → AtLeast c cuts (figure c cuts rows)) → (text : List ℕ)
+        → NoFewerBars figure (list_of words laying text)
+    none_fewer figure sound text = told figure sound (list_of words laying text) (list_kept text)

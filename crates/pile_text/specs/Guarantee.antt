@@ -1,5 +1,5 @@
 -- No plan of a list has fewer bars than its lower figure says.
-use Rattle.std.specs.Prelude.{◌≡◌, ℕ, true, List, [], ◌∷◌, is_ok, Ok, Err, Result, refl}
+use Rattle.std.specs.Prelude.{◌≡◌, ℕ, true, List, [], ◌∷◌, is_ok, Ok, refl}
 use Rattle.std.proofs.Common.{ap, subst}
 use Rattle.std.proofs.lemmas.Bool.{and_from}
 use Rattle.faults.specs.declared.Fault.{Fault}
@@ -16,9 +16,7 @@ use Rattle.banks.specs.BankSound.{bank_sound}
 use Rattle.functions.specs.Values.{identity}
 use Rattle.listings.specs.Answers.{NoFewerBars}
 use Rattle.listings.specs.Kept.{Kept, Keeps}
-use Rattle.listings.specs.Texts.{CuttingList}
-use Rattle.listings.specs.declared.reading.Stop.{Stop}
-use Rattle.listings.proofs.Keeping.{list_kept}
+use Rattle.listings.proofs.Keeping.{none_fewer}
 use Rattle.piles.specs.LaidLaw.{laid_again, pile_parts, pile_from}
 use Rattle.piles.specs.Laying.{pile_made, pile_of}
 use Rattle.piles.specs.declared.rows.Row.{Row}
@@ -53,11 +51,6 @@ lower_sound c cuts rows kept =
     (λ list few. bank_sound c (rows ∷ []) list (and_from (is_ok (pile_of c rows)) true (ap is_ok kept.ruled) refl))
     cuts kept.few
 
--- and so it is of whatever a text is read as
-told : (r : Result (CuttingList Row) Stop) → ((l : CuttingList Row) → r ≡ Ok l → Kept OnPile l.capacity l.cuts l.rows) → NoFewerBars lower_of r
-told (Ok l) kept = lower_sound l.capacity l.cuts l.rows (kept l refl)
-told (Err e) kept = tt
-
 -- no plan of the list of a text has fewer bars than its lower figure says
 pub no_fewer_bars : (text : List ℕ) → NoFewerBars lower_of (list_of text)
-no_fewer_bars text = told (list_of text) (λ l e. list_kept pile_laying OnPile piles_keep kind_words text l e)
+no_fewer_bars text = none_fewer pile_laying OnPile piles_keep kind_words lower_of lower_sound text

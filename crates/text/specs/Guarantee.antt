@@ -1,5 +1,5 @@
 -- No plan of a list has fewer bars than its lower figure says.
-use Rattle.std.specs.Prelude.{◌≡◌, ℕ, ◌*◌, ◌≤◌, max, List, [], ◌∷◌, ◌++◌, length, true, is_ok, Ok, Err, Result, nat_lt, nat_le, refl}
+use Rattle.std.specs.Prelude.{◌≡◌, ℕ, ◌*◌, ◌≤◌, max, List, [], ◌∷◌, ◌++◌, length, true, is_ok, Ok, Result, nat_lt, nat_le}
 use Rattle.std.proofs.Math.Nat.{one-le-mul}
 use Rattle.std.proofs.Common.{one-mul, ap, subst, arith}
 use Rattle.std.specs.List.{AllByRecursion}
@@ -22,9 +22,7 @@ use Rattle.functions.specs.SuperadditiveValues.{threshold_lawful, rounding_lawfu
 use Rattle.functions.specs.CountingLaw.{counting_lawful}
 use Rattle.listings.specs.Answers.{NoFewerBars}
 use Rattle.listings.specs.Kept.{Kept, Keeps}
-use Rattle.listings.specs.Texts.{CuttingList}
-use Rattle.listings.specs.declared.reading.Stop.{Stop}
-use Rattle.listings.proofs.Keeping.{list_kept}
+use Rattle.listings.proofs.Keeping.{none_fewer}
 use Rattle.text.specs.Kept.{Makes}
 use Rattle.text.specs.Kinds.{kind_words}
 use Rattle.text.specs.Lower.{bound_of_row, greatest_of, lower_of}
@@ -100,15 +98,10 @@ lower_sound c cuts rows kept =
     let r = in_range c (Ok c) m.0 m.1 in
     greatest_sound c cuts (bound c identity cuts) rows (bound_sound c c identity r.0.0 (λ sizes h. h) cuts) kept.ruled.made
 
--- and so it is of whatever a text is read as
-told : (r : Result (CuttingList Row) Stop) → ((l : CuttingList Row) → r ≡ Ok l → Kept Makes l.capacity l.cuts l.rows) → NoFewerBars lower_of r
-told (Ok l) kept = lower_sound l.capacity l.cuts l.rows (kept l refl)
-told (Err e) kept = tt
-
 -- the rows of a text keep to the rules, line by line
 functions_keep : Keeps function_laying Makes
 functions_keep = record { begun = bar_makes; added = row_makes }
 
 -- no plan of the list of a text has fewer bars than its lower figure says
 pub no_fewer_bars : (text : List ℕ) → NoFewerBars lower_of (list_of text)
-no_fewer_bars text = told (list_of text) (λ l e. list_kept function_laying Makes functions_keep kind_words text l e)
+no_fewer_bars text = none_fewer function_laying Makes functions_keep kind_words lower_of lower_sound text
