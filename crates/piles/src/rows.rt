@@ -25,7 +25,7 @@ pub enum Kind {
 #[derive(Clone, Copy, PartialEq, Eq, Debug)]
 pub struct UnknownKind(pub u64);
 
-// A kind and its parameter, which is 0 for a symmetrisation.
+// A kind and its parameter, which is 0 for a symmetrisation: every row is laid with both, and any other is refused.
 #[derive(Clone, Copy, Default, PartialEq, Eq, Debug)]
 pub struct Row {
     pub kind: Kind,

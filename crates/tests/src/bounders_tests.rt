@@ -12,7 +12,7 @@ fn told<B: Bounder>(bounder: &B, list: &[u64]) -> Result<u64, Fault> {
     bounder.number(list)
 }
 
-// A refusal of this layer.
+// A refusal of this layer, which would be the same word in each call.
 fn refused(refusal: Refusal, figure: u64) -> Fault {
     Fault::new(refusal, Layer::Bound, figure)
 }

@@ -18,7 +18,7 @@ pub fn made<F: Drop>(answer: Result<F, Fault>) -> Result<(), Fault>
     answer.map(|_| ())
 }
 
-// A refusal of the functions' layer.
+// A refusal of the functions' layer, which would be the same word in each call.
 pub fn refused(refusal: Refusal, figure: u64) -> Result<(), Fault>
     ensures { result ≡ Err (fault refusal Layer.Function figure) }
 {

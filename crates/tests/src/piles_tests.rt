@@ -61,6 +61,7 @@ fn laid(
     Ok((answer, pile.rows().as_slice().len()))
 }
 
+// A refusal of a pile's layer, which would be the same word in each call.
 fn refused(refusal: Refusal, row: u64) -> Result<(), Fault> {
     Err(Fault::new(refusal, Layer::Pile, row))
 }
