@@ -1,4 +1,5 @@
-// The five dual feasible functions, each made for a capacity.
+// The five dual feasible functions, each made for a capacity. Each checks the range of its parameter by an `if` of its own: a
+// shared check would take the same operands, and say no less.
 #![tactic(auto)]
 
 pub mod counting;

@@ -71,7 +71,8 @@ fn before_blank(text: &[u8]) -> usize
     first_blank(text).unwrap_or(text.len())
 }
 
-// The word and the number of a line, without the byte 10 that ends it, or nothing where the line is out of form.
+// The word and the number of a line, without the byte 10 that ends it, or nothing where the line is out of form. They stay a
+// pair, since every word takes its number in the same way.
 pub fn entry<W: RowWords>(line: &[u8]) -> Option<(Word<W::Kind>, u64)>
     ensures { result ≡ entry_of W.words line.now }
 {

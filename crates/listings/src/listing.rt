@@ -7,6 +7,6 @@ ghost use Rattle.std.specs.Prelude.{◌≤◌, vec_capacity};
 pub struct Listing<R> {
     pub rows: Option<R>,
     pub cuts: Vec<u64>,
-    // room for all the cuts that a text may have is reserved from the start
+    // room for all the cuts that a text may have is reserved from the start, so that a listing stays small where it is moved
     ghost room: { 64 ≤ vec_capacity cuts },
 }

@@ -54,6 +54,7 @@ impl Rows for LaidRows {
     }
 
     fn add(&mut self, kind: Kind, parameter: u64) -> Result<(), Fault> {
+        // A pile is laid by numbers, the one way there is.
         self.pile.lay(u64::from(kind), parameter)
     }
 }
