@@ -29,8 +29,8 @@ pub fn lower_bound<F: DualFeasible>(f: &F, list: &[u64]) -> Result<u64, Fault>
     let (_, image) = f.capacities();
     let mut total = 0;
     for (i, size) in list.iter().enumerate() {
-        // The function's own fault names the size; a bounder's names its position. `check_list` first would be a second walk
-        // over the list, at each bound that is asked.
+        // The function's own fault names the size; a bounder's names its position, and `map_err` would say these words in a
+        // closure. `check_list` first would be a second walk over the list, at each bound that is asked.
         let Ok(value) = f.value(*size) else {
             return Err(Fault::new(Refusal::Size, Layer::Bound, i as u64));
         };

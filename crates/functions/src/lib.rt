@@ -1,5 +1,5 @@
-// The five dual feasible functions, each made for a capacity. Each checks the range of its parameter by an `if` of its own: a
-// shared check would take the same operands, and say no less.
+// The five dual feasible functions, each made for a capacity. The four with a parameter check its range by an `if` each, as
+// scaling does: a shared check would take the same operands, and be no shorter.
 #![tactic(auto)]
 
 pub mod counting;

@@ -54,7 +54,7 @@ impl Rows for LaidRows {
     }
 
     fn add(&mut self, kind: Kind, parameter: u64) -> Result<(), Fault> {
-        // A pile is laid by numbers, the one way there is.
+        // Every row is laid by its kind's number, as in `Pile::from_rows`.
         self.pile.lay(u64::from(kind), parameter)
     }
 }

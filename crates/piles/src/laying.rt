@@ -32,7 +32,9 @@ impl Kind {
     }
 }
 
-// A step's row is accepted, so a row that is not yet is asked with the image capacity beside it.
+// A step's row is accepted, so a row that is not yet is asked with the image capacity beside it. Each rule of the kinds is one
+// `match`, here and for steps: there are no kinds but these, and a rule is read in one place. The ranges are those that making
+// the functions checks, whose faults name a parameter and not a row.
 impl Row {
     // Whether the parameter is in its range, over an image capacity.
     fn in_range(self, below: u64) -> bool
@@ -161,7 +163,8 @@ impl Pile {
         if self.steps.is_full() {
             return Err(Fault::new(Refusal::TooMany, Layer::Pile, MOST_ROWS as u64));
         }
-        // A kind comes as its number, so that an unknown one has its refusal, which names the row and not the number.
+        // A kind comes as its number, so that an unknown one has its refusal, which names the row and not the number;
+        // `map_err` would say these words in a closure.
         let Ok(kind) = Kind::try_from(kind) else {
             return Err(Fault::new(Refusal::Parameter, Layer::Pile, self.steps.len() as u64));
         };
@@ -171,7 +174,8 @@ impl Pile {
         Ok(())
     }
 
-    // The pile of plain rows, laid one after the other by their numbers, as every row is, or the first refusal.
+    // The pile of plain rows, laid one after the other, or the first refusal. Every row is laid by its kind's number: a second
+    // call, for a known kind, would be proved and read beside the first.
     pub fn from_rows(capacity: u64, rows: &[Row]) -> Result<Pile, Fault>
         ensures { outcome (λ p. (p.capacity, pile_rows p)) result ≡ pile_of capacity rows.now }
     {
@@ -187,7 +191,7 @@ impl Pile {
         ensures rows { rows_in result ≡ pile_rows self.now }
         ensures again { pile_of self.now.capacity (rows_in result) ≡ Ok (self.now.capacity, rows_in result) }
     {
-        let mut rows = Rows::NONE.rows;
+        let mut rows = [Row::default(); MOST_ROWS];
         for (i, step) in self.steps.iter().enumerate() {
             rows[i] = step.row;
         }

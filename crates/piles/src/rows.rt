@@ -33,7 +33,7 @@ pub struct Row {
 }
 
 // Plain rows for a table, the lowest first: those below the count are meant. They lie in an array with their count, since
-// plain rows can be copied, and a vector of fixed capacity cannot.
+// plain rows are `Copy`, and a vector of fixed capacity is not.
 #[derive(Clone, Copy, Default)]
 pub struct Rows {
     pub(crate) count: usize,
