@@ -6,20 +6,20 @@ use dual_feasible::DualFeasible;
 use faults::{Fault, Layer, Refusal};
 
 // The values at four sizes.
-pub fn four<F: DualFeasible>(f: &F, sizes: [u64; 4]) -> Result<[u64; 4], Fault> {
+pub(crate) fn four<F: DualFeasible>(f: &F, sizes: [u64; 4]) -> Result<[u64; 4], Fault> {
     let [a, b, c, d] = sizes;
     Ok([f.value(a)?, f.value(b)?, f.value(c)?, f.value(d)?])
 }
 
 // That a function was made, without the function.
-pub fn made<F: Drop>(answer: Result<F, Fault>) -> Result<(), Fault>
+pub(crate) fn made<F: Drop>(answer: Result<F, Fault>) -> Result<(), Fault>
     ensures { result ≡ outcome (λ _. tt) answer }
 {
     answer.map(|_| ())
 }
 
 // A refusal of the functions' layer, which would be the same word in each call.
-pub fn refused(refusal: Refusal, figure: u64) -> Result<(), Fault>
+pub(crate) fn refused(refusal: Refusal, figure: u64) -> Result<(), Fault>
     ensures { result ≡ Err (fault refusal Layer.Function figure) }
 {
     Err(Fault::new(refusal, Layer::Function, figure))

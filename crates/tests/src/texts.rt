@@ -6,7 +6,7 @@ use std::process::Abort;
 use std::test::Fail;
 
 // Texts and the lines that answer them, whatever their rows are kept in.
-pub const COMMON: [(&str, &str); 35] = [
+pub(crate) const COMMON: [(&str, &str); 35] = [
     // accepted
     ("bar 8\n", "lower 0\n"),
     (
@@ -68,7 +68,7 @@ pub const COMMON: [(&str, &str); 35] = [
 ];
 
 // Each text is answered by the line beside it, and is refused where that line says so.
-pub fn check_cases<F: Fn(Global, &[u8]) -> Result<Printed, AllocError>>(
+pub(crate) fn check_cases<F: Fn(Global, &[u8]) -> Result<Printed, AllocError>>(
     rt: &impl Abort,
     heap: Global,
     answer: F,
@@ -89,7 +89,7 @@ pub fn check_cases<F: Fn(Global, &[u8]) -> Result<Printed, AllocError>>(
 }
 
 // The fault of a text, where it is refused.
-pub fn fault_of<F: Fn(Global, &[u8]) -> Result<Printed, AllocError>>(
+pub(crate) fn fault_of<F: Fn(Global, &[u8]) -> Result<Printed, AllocError>>(
     heap: Global,
     answer: F,
     text: &[u8],
@@ -100,12 +100,17 @@ pub fn fault_of<F: Fn(Global, &[u8]) -> Result<Printed, AllocError>>(
     Ok(printed.refused)
 }
 
-pub fn fault(refusal: Refusal, layer: Layer, figure: u64) -> Option<Fault> {
+pub(crate) fn fault(refusal: Refusal, layer: Layer, figure: u64) -> Option<Fault> {
     Some(Fault::new(refusal, layer, figure))
 }
 
 // A text that repeats one line after the others.
-pub fn repeated(heap: Global, first: &str, line: &str, times: usize) -> Result<String, AllocError> {
+pub(crate) fn repeated(
+    heap: Global,
+    first: &str,
+    line: &str,
+    times: usize,
+) -> Result<String, AllocError> {
     let mut text = String::from_str(heap, first)?;
     for _ in 0..times {
         text.push_str(line)?;
@@ -131,7 +136,7 @@ fn check_repeated<F: Fn(Global, &[u8]) -> Result<Printed, AllocError>>(
 }
 
 // Texts at the limits of cuts, rows and bytes are answered by these lines.
-pub fn check_limits<F: Fn(Global, &[u8]) -> Result<Printed, AllocError> + Copy>(
+pub(crate) fn check_limits<F: Fn(Global, &[u8]) -> Result<Printed, AllocError> + Copy>(
     rt: &impl Abort,
     heap: Global,
     answer: F,
