@@ -44,12 +44,19 @@ fn better_of(found: Option<Best>, bound: u64, pile: u64) -> Option<Best>
 }
 
 impl Bank {
+    // The piles that are held.
+    fn held(&self) -> &[Rows]
+        ensures { result.now ≡ self.now.piles.items }
+    {
+        self.piles.as_slice()
+    }
+
     // The greatest bound, and the number of the first pile that reaches it, where there is a pile.
     fn survey(&self, list: &[u64]) -> Result<Option<Best>, Fault>
         ensures { outcome findings result ≡ asked_of self.now.capacity (surveyed self.now.capacity (bank_piles self.now)) list.now }
     {
         check_list(self.capacity, list)?;
-        let piles = self.piles.as_slice();
+        let piles = self.held();
         let mut found = None;
         for (i, rows) in piles.iter().enumerate() {
             let bound = bound_of(self.capacity, rows, list)?;

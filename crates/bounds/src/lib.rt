@@ -1,7 +1,7 @@
 // Lower bounds on the number of bars that a list of sizes needs.
 #![tactic(auto)]
 
-ghost use Rattle.std.specs.Prelude.{◌≡◌, ℕ, List};
+ghost use Rattle.std.specs.Prelude.{◌≡◌, ℕ, ◌+◌, ◌-◌, ◌/◌, ◌≤◌, List};
 ghost use Rattle.dual_feasible.specs.Laws.{InRange};
 ghost use Rattle.plans.specs.Plans.{AtLeast};
 ghost use Rattle.bounds.specs.Bounds.{asked, bound, Sound};
@@ -15,6 +15,15 @@ pub mod greater;
 
 // A list has at most this many entries.
 pub const MOST: usize = 64;
+
+// A quotient, rounded up.
+#[tactic(auto, using(crate::proofs::RoundedUp::rounded_up_is))]
+fn rounded_up(total: u64, image: u64) -> u64
+    requires { 1 ≤ image }
+    ensures { result ≡ (total + (image - 1)) / image }
+{
+    total.div_ceil(image)
+}
 
 // The bound of a dual feasible function: the values of the list added up, divided by the image capacity and rounded up.
 // A list of more than 64 entries is refused with 6, then the first entry above the capacity with 4 and its position.
@@ -36,7 +45,7 @@ pub fn lower_bound<F: DualFeasible>(f: &F, list: &[u64]) -> Result<u64, Fault>
         };
         total += value;
     }
-    Ok(total.div_ceil(image))
+    Ok(rounded_up(total, image))
 }
 
 // A bounder: it tells a number for each list, and no plan of the list has fewer bars.

@@ -6,7 +6,6 @@ use Rattle.plans.specs.Plans.{total, AtLeast}
 use Rattle.dual_feasible.proofs.Lawful.{value_below}
 use Rattle.dual_feasible.proofs.Questions.{value_told, refusal_told}
 use Rattle.bounds.specs.Bounds.{bound}
-use Rattle.bounds.proofs.RoundedUp.{rounded_up_is}
 use Rattle.bounds.proofs.Entries.{entry_passes, entry_refused, entries_passed}
 use Rattle.bounds.specs.Sound.{bound_sound}
 use Rattle.bounds.proofs.lower_bound.Given as given
@@ -65,6 +64,12 @@ loop-i-preserved g c =
       λ later. c.loop-i.invariant.2 later ∙ entry_passes (g.F.DualFeasible.capacity c.args.f.now) list i later c.loop-i-test.true t.0,
     )
 
+pub rounded_up-requires : goal.rounded_up-requires
+rounded_up-requires g c =
+    let d = ap (λ (p : ℕ × ℕ). p.1) c.capacities-image.ensures in
+    let limits = (g.met.F.DualFeasible.limits c.args.f.now).1 in
+    omega arith
+
 pub returns : goal.returns
 returns g c =
     let list = c.args.list.now in
@@ -72,8 +77,7 @@ returns g c =
     let d : c.capacities-image.result.1 ≡ g.F.DualFeasible.image c.args.f.now = ap (λ (p : ℕ × ℕ). p.1) c.capacities-image.ensures in
     let e : c.loop-i.total ≡ total v list = omega (arith, at_drop_all (total v) list c.loop-i.i c.loop-i-test.false) in
     let later : Result ℕ Fault = Ok (bound (g.F.DualFeasible.image c.args.f.now) v list) in
-    let positive = (g.met.F.DualFeasible.limits c.args.f.now).1.0 in
-    let b : c.div_ceil.result ≡ bound (g.F.DualFeasible.image c.args.f.now) v list = c.div_ceil.ensures ∙ rw (d, e) (sym (rounded_up_is (total v list) (g.F.DualFeasible.image c.args.f.now) positive)) in
+    let b : c.rounded_up.result ≡ bound (g.F.DualFeasible.image c.args.f.now) v list = c.rounded_up.ensures ∙ rw (d, e) in
     record {
       answer =
           rw (le-ltb 64 (length list) c.if-list-gt-MOST.false, b)

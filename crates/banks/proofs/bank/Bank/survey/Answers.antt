@@ -18,28 +18,28 @@ returns-in_err-check_list c =
 pub bound_of-requires : goal.bound_of-requires
 bound_of-requires c =
     let b = c.args.self.now in
-    rw c.as_slice-piles.ensures.value (held_made b.capacity b.piles.items c.loop-i.i (rw (sym c.as_slice-piles.ensures.value) c.loop-i-test.true) b.standing)
+    rw c.held-piles.ensures (held_made b.capacity b.piles.items c.loop-i.i (rw (sym c.held-piles.ensures) c.loop-i-test.true) b.standing)
 
 pub returns-in_err-bound : goal.returns-in_err-bound
 returns-in_err-bound c =
     let b = c.args.self.now in
     let q = err_from_is_err_and c.from_residual-in_err-bound.result c.from_residual-in_err-bound.ensures.1 in
-    rw (q.1, q.2) (asked_refused {X = ℕ} b.capacity (λ l. pile_bound b.capacity l (rows_in (get_or c.as_slice-piles.result.now c.loop-i.i no_rows))) (surveyed b.capacity (bank_piles b)) c.args.list.now c.in_err-bound.field-0.0 c.in_err-bound.ensures)
+    rw (q.1, q.2) (asked_refused {X = ℕ} b.capacity (λ l. pile_bound b.capacity l (rows_in (get_or c.held-piles.result.now c.loop-i.i no_rows))) (surveyed b.capacity (bank_piles b)) c.args.list.now c.in_err-bound.field-0.0 c.in_err-bound.ensures)
 
 pub loop-i-preserved : goal.loop-i-preserved
 loop-i-preserved c =
     let b = c.args.self.now in
     let list = c.args.list.now in
-    let a = asked_answered {X = ℕ} b.capacity (λ l. pile_bound b.capacity l (rows_in (get_or c.as_slice-piles.result.now c.loop-i.i no_rows))) (surveyed b.capacity (bank_piles b)) list c.in_ok-bound.bound c.in_ok-bound.ensures in
+    let a = asked_answered {X = ℕ} b.capacity (λ l. pile_bound b.capacity l (rows_in (get_or c.held-piles.result.now c.loop-i.i no_rows))) (surveyed b.capacity (bank_piles b)) list c.in_ok-bound.bound c.in_ok-bound.ensures in
     rw c.better_of-found.ensures
-    (sym (bound_along b.capacity b.piles.items c.loop-i.i (rw (sym c.as_slice-piles.ensures.value) c.loop-i-test.true) list c.loop-i.found c.in_ok-bound.bound (rw (sym c.as_slice-piles.ensures.value) a.0)) ∙ c.loop-i.invariant)
+    (sym (bound_along b.capacity b.piles.items c.loop-i.i (rw (sym c.held-piles.ensures) c.loop-i-test.true) list c.loop-i.found c.in_ok-bound.bound (rw (sym c.held-piles.ensures) a.0)) ∙ c.loop-i.invariant)
 
 pub returns : goal.returns
 returns c =
     let b = c.args.self.now in
     let list = c.args.list.now in
     let numbers = pile_bounds b.capacity (bank_piles b) list in
-    let end : length b.piles.items ≤ c.loop-i.i = rw (sym c.as_slice-piles.ensures.value) c.loop-i-test.false in
+    let end : length b.piles.items ≤ c.loop-i.i = rw (sym c.held-piles.ensures) c.loop-i-test.false in
     let all : length numbers ≤ c.loop-i.i = omega (arith, length-map (bank_piles b) (pile_bound b.capacity list), length-map b.piles.items rows_in) in
     let found : c.loop-i.found ≡ along None 0 numbers = sym (at_drop_all (along c.loop-i.found c.loop-i.i) numbers c.loop-i.i all) ∙ c.loop-i.invariant in
     ap (λ f. Ok (findings f)) found ∙ ap Ok (found_all numbers) ∙ sym (asked_answered {X = Unit} b.capacity (λ _. tt) (surveyed b.capacity (bank_piles b)) list tt c.in_ok-check_list.ensures).1
